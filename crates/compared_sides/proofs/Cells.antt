@@ -6,7 +6,7 @@ use Rattle.json_tape.specs.Document.{Doc, node_at}
 use Rattle.tape_values.specs.Comparison.{Value, value_of}
 use Rattle.tape_values.specs.Functions.{length_value, whole_number}
 use Rattle.decisions.specs.Marks.{cell}
-use Rattle.decisions.specs.Told.{values_on, beside, values_in, AreApart, IsCell}
+use Rattle.decisions.specs.Decided.{values_on, beside, values_in, AreApart, IsCell}
 use Rattle.decisions.specs.declared.scale.Scale.{Scale}
 
 pub is_cell : (d : Doc) (s : Scale) (n : Node) (l : Option Value) (r : Option ℕ) → s.is_rooted ≡ false → IfSome r (λ i. i ≡ cell (values_on s) (Some (value_of n.tree)) l) → l ≡ length_value (Some (value_of n.tree))

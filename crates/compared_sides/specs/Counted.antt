@@ -7,7 +7,7 @@ abbrev pub IsCounted : Doc → ℕ → Option ℕ → Type 0
 IsCounted d n None = Unit {0}
 IsCounted d n (Some length) = length_of (node_at d n).tree ≡ Some length
 
--- the same of all from this number on
+-- the lengths that are kept are right, for all entries from this number on
 abbrev pub AreCountedFrom : Doc → ℕ → List (Option ℕ) → Type 0
 AreCountedFrom d n [] = Unit {0}
 AreCountedFrom d n (x ∷ xs) = IsCounted d n x × AreCountedFrom d (suc n) xs

@@ -9,7 +9,7 @@ use tape_values::equal_and_less;
 
 /// How the values of two nodes compare.
 #[derive(Clone, Copy)]
-pub struct Answer {
+pub struct Compared {
     pub left: NodeId,
     pub right: NodeId,
     pub is_equal: bool,
@@ -27,7 +27,7 @@ const TRIES: usize = 600;
 
 // Makes room for comparisons, as far as there is memory: for few, and for more once there is no place left. None is kept then.
 #[tactic(auto, using(crate::proofs::Learnt::room))]
-fn make_room(doc: &Document, table: &mut Vec<Option<Answer>>)
+fn make_room(doc: &Document, table: &mut Vec<Option<Compared>>)
     requires { AreRight doc.now table.old.items }
     ensures { AreRight doc.now table.new.items }
 {
@@ -47,12 +47,12 @@ fn first_place(a: NodeId, b: NodeId) -> usize {
     mixed as usize
 }
 
-fn is_of(answer: Answer, a: NodeId, b: NodeId) -> bool {
+fn is_of(answer: Compared, a: NodeId, b: NodeId) -> bool {
     answer.left.0 == a.0 && answer.right.0 == b.0
 }
 
 // The place where a pair is kept, or the first of its places where none is.
-fn place_of(table: &[Option<Answer>], a: NodeId, b: NodeId) -> Option<usize> {
+fn place_of(table: &[Option<Compared>], a: NodeId, b: NodeId) -> Option<usize> {
     let total = table.len();
     for tried in 0..total.min(TRIES) {
         let at = first_place(a, b).wrapping_add(tried) % total;
@@ -66,8 +66,8 @@ fn place_of(table: &[Option<Answer>], a: NodeId, b: NodeId) -> Option<usize> {
     None
 }
 
-// The same, once there is room.
-fn place_with_room(doc: &Document, table: &mut Vec<Option<Answer>>, a: NodeId, b: NodeId) -> usize
+// The place of a pair in the table, which gets more places where none is free.
+fn place_with_room(doc: &Document, table: &mut Vec<Option<Compared>>, a: NodeId, b: NodeId) -> usize
     requires { AreRight doc.now table.old.items }
     ensures { AreRight doc.now table.new.items }
 {
@@ -82,13 +82,13 @@ fn place_with_room(doc: &Document, table: &mut Vec<Option<Answer>>, a: NodeId, b
 
 // What is known of two nodes, where that is kept at this place.
 #[tactic(auto, using(crate::proofs::Learnt::answers))]
-fn known(
+fn known_comparison(
     doc: &Document,
-    table: &[Option<Answer>],
+    table: &[Option<Compared>],
     at: usize,
     a: NodeId,
     b: NodeId,
-) -> Option<Answer>
+) -> Option<Compared>
     requires right { AreRight doc.now table.now }
     ensures { IfSome result (λ answer. Answers doc.now a b answer) }
 {
@@ -105,14 +105,14 @@ fn known(
 }
 
 // Two values compared.
-fn found(doc: &Document, a: NodeId, b: NodeId) -> Answer
+fn comparison_of(doc: &Document, a: NodeId, b: NodeId) -> Compared
     requires left { a.0 < count doc.now }
     requires right { b.0 < count doc.now }
     ensures answer { Answers doc.now a b result }
     ensures kept { IsRight doc.now (Some result) }
 {
     let (is_equal, is_less) = equal_and_less(doc, a, b);
-    Answer {
+    Compared {
         left: a,
         right: b,
         is_equal,
@@ -122,7 +122,7 @@ fn found(doc: &Document, a: NodeId, b: NodeId) -> Answer
 
 // Keeps how two values compare.
 #[tactic(auto, using(crate::proofs::Learnt::answers))]
-fn keep(doc: &Document, table: &mut [Option<Answer>], at: usize, answer: Answer)
+fn keep_comparison(doc: &Document, table: &mut [Option<Compared>], at: usize, answer: Compared)
     requires before { AreRight doc.now table.old }
     requires kept { IsRight doc.now (Some answer) }
     ensures { AreRight doc.now table.new }
@@ -134,7 +134,12 @@ fn keep(doc: &Document, table: &mut [Option<Answer>], at: usize, answer: Answer)
 }
 
 /// How two values compare, found once while the table keeps it.
-pub fn compare_once(doc: &Document, table: &mut Vec<Option<Answer>>, a: NodeId, b: NodeId) -> Answer
+pub fn compare_once(
+    doc: &Document,
+    table: &mut Vec<Option<Compared>>,
+    a: NodeId,
+    b: NodeId,
+) -> Compared
     requires left { a.0 < count doc.now }
     requires right { b.0 < count doc.now }
     requires before { AreRight doc.now table.old.items }
@@ -142,10 +147,10 @@ pub fn compare_once(doc: &Document, table: &mut Vec<Option<Answer>>, a: NodeId, 
     ensures after { AreRight doc.now table.new.items }
 {
     let at = place_with_room(doc, table, a, b);
-    if let Some(answer) = known(doc, table, at, a, b) {
+    if let Some(answer) = known_comparison(doc, table, at, a, b) {
         return answer;
     }
-    let answer = found(doc, a, b);
-    keep(doc, table, at, answer);
+    let answer = comparison_of(doc, a, b);
+    keep_comparison(doc, table, at, answer);
     answer
 }

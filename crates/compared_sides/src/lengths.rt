@@ -28,7 +28,7 @@ pub fn no_lengths(alloc: Global, doc: &Document) -> Lengths
 
 // The length of a value, where it is kept.
 #[tactic(auto, using(crate::proofs::Counted::counted))]
-fn known(doc: &Document, kept: &[Option<u32>], n: NodeId) -> Option<u32>
+fn known_length(doc: &Document, kept: &[Option<u32>], n: NodeId) -> Option<u32>
     requires right { AreCounted doc.now kept.now }
     ensures { IfSome result (λ length. length_of (node_at doc.now n.0).tree ≡ Some length) }
 {
@@ -51,7 +51,7 @@ fn make_room(doc: &Document, kept: &mut Vec<Option<u32>>)
 }
 
 #[tactic(auto, using(crate::proofs::Counted::counted))]
-fn keep(doc: &Document, kept: &mut [Option<u32>], n: NodeId, length: u32)
+fn keep_length(doc: &Document, kept: &mut [Option<u32>], n: NodeId, length: u32)
     requires right { AreCounted doc.now kept.old }
     requires length { length_of (node_at doc.now n.0).tree ≡ Some length }
     ensures { AreCounted doc.now kept.new }
@@ -76,7 +76,7 @@ fn keep_counted(doc: &Document, n: NodeId, length: u32, lengths: &mut Lengths)
         return;
     }
     make_room(doc, &mut lengths.kept);
-    keep(doc, &mut lengths.kept, n, length);
+    keep_length(doc, &mut lengths.kept, n, length);
 }
 
 /// How many scalar values, elements or members a value has.
@@ -86,7 +86,7 @@ pub fn length_once(doc: &Document, n: NodeId, lengths: &mut Lengths) -> Option<u
     ensures length { result ≡ length_of (node_at doc.now n.0).tree }
     ensures after { AreCounted doc.now lengths.new.kept.items }
 {
-    if let Some(length) = known(doc, &lengths.kept, n) {
+    if let Some(length) = known_length(doc, &lengths.kept, n) {
         return Some(length);
     }
     let length = doc.length(n)?;

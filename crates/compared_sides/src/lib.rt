@@ -10,7 +10,7 @@ mod deciding;
 mod lengths;
 mod sides;
 
-pub use answers::Answer;
+pub use answers::Compared;
 pub use deciding::decision_holds;
 pub use lengths::{Lengths, no_lengths};
 pub use sides::{cell_of, compare, compare_length, length_of, related, side_found};

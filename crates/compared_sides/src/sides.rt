@@ -12,9 +12,9 @@ ghost use Rattle.decisions.specs.Views.{test_view};
 ghost use Rattle.compared_sides.specs.Answered.{AreRight};
 ghost use Rattle.compared_sides.specs.Counted.{AreCounted};
 ghost use Rattle.compared_sides.specs.Values.{value_found};
-ghost use Rattle.decisions.specs.Told.{AreApart, IsCell};
+ghost use Rattle.decisions.specs.Decided.{AreApart, IsCell};
 
-use crate::answers::{Answer, compare_once};
+use crate::answers::{Compared, compare_once};
 use crate::deciding::SideIn;
 use crate::lengths::{Lengths, length_once};
 use decisions::{Constant, Decision, Relation, Scale};
@@ -118,7 +118,7 @@ fn compare_kept(
     op: Op,
     a: NodeId,
     b: NodeId,
-    answers: &mut Vec<Option<Answer>>,
+    answers: &mut Vec<Option<Compared>>,
 ) -> bool
     requires left { a.0 < count doc.now }
     requires right { b.0 < count doc.now }
@@ -167,7 +167,7 @@ pub fn compare(
     op: Op,
     left: &Side<'_>,
     right: &Side<'_>,
-    answers: &mut Vec<Option<Answer>>,
+    answers: &mut Vec<Option<Compared>>,
 ) -> bool
     requires left { IsSide doc.now left.now }
     requires right { IsSide doc.now right.now }
@@ -192,7 +192,7 @@ pub fn compare(
 
 // How the values of a node and the root compare.
 #[inline(never)]
-fn relation(doc: &Document, child: NodeId, answers: &mut Vec<Option<Answer>>) -> Relation
+fn relation(doc: &Document, child: NodeId, answers: &mut Vec<Option<Compared>>) -> Relation
     requires inside { child.0 < count doc.now }
     requires before { AreRight doc.now answers.old.items }
     ensures related { IsRelated result (Some (value_of (node_at doc.now child.0).tree)) (Some (value_of (node_at doc.now 0).tree)) }
@@ -214,7 +214,7 @@ pub fn related(
     doc: &Document,
     decision: &Decision,
     child: NodeId,
-    answers: &mut Vec<Option<Answer>>,
+    answers: &mut Vec<Option<Compared>>,
 ) -> Relation
     requires inside { child.0 < count doc.now }
     requires before { AreRight doc.now answers.old.items }
@@ -229,7 +229,7 @@ pub fn related(
 }
 
 // Whether the values of a node and the root are known to be of two kinds.
-fn are_apart(doc: &Document, child: NodeId, answers: &mut Vec<Option<Answer>>) -> bool
+fn are_apart(doc: &Document, child: NodeId, answers: &mut Vec<Option<Compared>>) -> bool
     requires inside { child.0 < count doc.now }
     requires before { AreRight doc.now answers.old.items }
     ensures apart { IsTrue result → AreApart (Some (value_of (node_at doc.now child.0).tree)) (Some (value_of (node_at doc.now 0).tree)) }
@@ -245,7 +245,7 @@ fn cell_beside(
     scale: &Scale,
     child: NodeId,
     lengths: &mut Lengths,
-    answers: &mut Vec<Option<Answer>>,
+    answers: &mut Vec<Option<Compared>>,
 ) -> Option<usize>
     requires inside { child.0 < count doc.now }
     requires rooted { IsTrue scale.now.is_rooted }
@@ -275,7 +275,7 @@ pub fn cell_of(
     scale: &Scale,
     child: NodeId,
     lengths: &mut Lengths,
-    answers: &mut Vec<Option<Answer>>,
+    answers: &mut Vec<Option<Compared>>,
 ) -> Option<usize>
     requires inside { child.0 < count doc.now }
     requires lengths { AreCounted doc.now lengths.old.kept.items }

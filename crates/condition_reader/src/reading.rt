@@ -321,7 +321,7 @@ fn read_group(
     Ok(Some(made))
 }
 
-/// The same of the operands with this number, with `||` between them, or with `&&`.
+/// The decision of the operands with this number, with `||` between them, or with `&&`.
 pub fn decide_group(
     alloc: Global,
     side: &Comparable,

@@ -4,5 +4,5 @@ pub mod Truth
 pub mod Views
 pub mod Places
 pub mod Marks
-pub mod Told
+pub mod Decided
 pub mod Laws

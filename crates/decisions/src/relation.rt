@@ -9,7 +9,7 @@ use path_grammar::Op;
 #[derive(Clone, Copy)]
 pub struct Relation {
     pub is_equal: bool,
-    /// The same with the two exchanged.
+    /// Whether the second is equal to the first.
     pub is_equal_back: bool,
     pub is_less: bool,
     pub is_greater: bool,

@@ -34,7 +34,7 @@ fn mark<S: ComparedSide>(literals: &[Constant], side: &S) -> usize
     side.kind_number() + side_place(literals, side)
 }
 
-// The same among one whole number more.
+// The mark of a side among a whole number and the literals behind it.
 fn mark_beside<S: ComparedSide>(literals: &[Constant], total: usize, side: &S) -> usize
     requires { IsSortedByKey constant_value value_cmp literals.now }
     ensures { result ≡ mark (Some (whole_number total) ∷ map constant_value literals.now) (S.value side.now) }
@@ -77,7 +77,7 @@ impl Scale {
         before.checked_add(column)
     }
 
-    /// The same with a whole number beside the literals.
+    /// The cell of two sides on the scale with a whole number beside its literals.
     pub fn cell_beside<S: ComparedSide>(&self, total: usize, first: &S, second: &S) -> Option<usize>
         ensures { IfSome result (λ i. i ≡ cell (Some (whole_number total) ∷ map constant_value self.now.literals.items) (S.value first.now) (S.value second.now)) }
     {

@@ -69,6 +69,4 @@ pub sum_more : (f : Node → ℕ) (d : Doc) (ids : List NodeId) (i : ℕ) (id : 
     → total_of f (nodes_of d (drop i ids)) ≡ f (node_at d (get_or ids i id).0) + total_of f (nodes_of d (drop (i + 1) ids))
 sum_more f d ids i id lt = ap (λ (xs : List NodeId). total_of f (nodes_of d xs)) (drop_more ids i id lt)
 
-pub ruleset each_node = (add_more, has_none, flat_more, sum_more, append_assoc)
-
 pub ruleset each_input = (append_nil, flat_more, sum_more, append_assoc, has_none)

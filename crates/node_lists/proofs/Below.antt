@@ -60,12 +60,15 @@ counting_split k (suc m) n =
     let next : k + suc m ≡ suc k + m = omega arith in
     rw (more, next) (ap (λ ks. k ∷ ks) (counting_split (suc k) m n))
 
-split : (d : Doc) (from mid to : ℕ) → from ≤ mid → mid ≤ to → children_between d from to ≡ children_between d from mid ++ children_between d mid to
-split d from mid to a b =
+pub nodes_split : (d : Doc) (from mid to : ℕ) → from ≤ mid → mid ≤ to → nodes_between d from to ≡ nodes_between d from mid ++ nodes_between d mid to
+nodes_split d from mid to a b =
     let e : to - from ≡ (mid - from) + (to - mid) = omega (arith, a, b) in
     let f : from + (mid - from) ≡ mid = omega (arith, a) in
     let c : counting from (to - from) ≡ counting from (mid - from) ++ counting mid (to - mid) = rw e (counting_split from (mid - from) (to - mid) ∙ rw f refl) in
-    ap (λ ks. flat_map children (seen d ks)) c ∙ ap (flat_map children) (map-append (node_at d) (counting from (mid - from)) (counting mid (to - mid))) ∙ flat_map-append children (nodes_between d from mid) (nodes_between d mid to)
+    ap (seen d) c ∙ map-append (node_at d) (counting from (mid - from)) (counting mid (to - mid))
+
+split : (d : Doc) (from mid to : ℕ) → from ≤ mid → mid ≤ to → children_between d from to ≡ children_between d from mid ++ children_between d mid to
+split d from mid to a b = ap (flat_map children) (nodes_split d from mid to a b) ∙ flat_map-append children (nodes_between d from mid) (nodes_between d mid to)
 
 pub none_passed : (d : Doc) (from to : ℕ) → to ≤ from → children_between d from to ≡ []
 none_passed d from to le = let none : to - from ≡ 0 = omega (arith, le) in rw none refl

@@ -2,6 +2,7 @@ pub mod Adding
 pub mod Totals
 pub mod Visits
 pub mod Below
+pub mod Childless
 pub mod Naming
 pub mod Picking
 pub mod Turned

@@ -63,7 +63,7 @@ nth_none w [] h = refl
 nth_none zero (n ∷ ns) h = absurd (omega (arith, h))
 nth_none (suc w) (n ∷ ns) h = nth_none w ns (omega (arith, h))
 
-at_place : (w : ℕ) (ns : List Node) → at_index (Within (pos w)) ns ≡ nth w ns
+pub at_place : (w : ℕ) (ns : List Node) → at_index (Within (pos w)) ns ≡ nth w ns
 at_place w ns = elim (cases_lt w (length ns)) [
   | inl below ↦ let yes : nat_lt w (length ns) ≡ true = grind (arith, nat_tests) in rw yes refl
   | inr above ↦ let no : nat_lt w (length ns) ≡ false = grind (arith, nat_tests) in rw (no, nth_none w ns above) refl

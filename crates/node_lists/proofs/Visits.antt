@@ -3,7 +3,6 @@ use Rattle.std.proofs.Common.{◌≡◌, ℕ, zero, suc, ◌+◌, ◌-◌, ◌<�
 use Rattle.std.specs.Prelude.{flat_map}
 use Rattle.json_tape.specs.Nodes.{Node}
 use Rattle.json_tape.specs.Document.{Doc, node_at, seen, counting}
-use Rattle.node_lists.specs.Charge.{total_of}
 
 counting_length : (k n : ℕ) → length (counting k n) ≡ n
 counting_length k zero = refl
@@ -21,6 +20,3 @@ counting_more k e h = let p : e - k ≡ suc (e - (k + 1)) = omega arith in let q
 
 pub visit_more : (f : Node → List Node) (d : Doc) (k e : ℕ) → k < e → flat_map f (seen d (counting k (e - k))) ≡ f (node_at d k) ++ flat_map f (seen d (counting (k + 1) (e - (k + 1))))
 visit_more f d k e lt = ap (λ (xs : List ℕ). flat_map f (seen d xs)) (counting_more k e lt)
-
-pub visit_charged : (f : Node → ℕ) (d : Doc) (k e : ℕ) → k < e → total_of f (seen d (counting k (e - k))) ≡ f (node_at d k) + total_of f (seen d (counting (k + 1) (e - (k + 1))))
-visit_charged f d k e lt = ap (λ (xs : List ℕ). total_of f (seen d xs)) (counting_more k e lt)

@@ -36,6 +36,16 @@ pub fn named(
     Ok(())
 }
 
+/// How many nodes there are from a node on to the last below it.
+#[tactic(auto, using(crate::proofs::Visits::visit_length))]
+pub fn visit_total(doc: &Document, n: NodeId) -> u32
+    requires { n.0 < count doc.now }
+    ensures { result ≡ length (visit (node_at doc.now n.0)) }
+{
+    let after = doc.after(n);
+    after - n.0
+}
+
 /// How many nodes there are below a node. Each is the child of one.
 #[tactic(auto, using(crate::proofs::Below::below_total))]
 pub fn below_total(doc: &Document, n: NodeId) -> u32

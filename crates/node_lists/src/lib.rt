@@ -7,14 +7,16 @@
 mod chains;
 mod descendants;
 mod fault;
+mod laws;
 mod meter;
 mod nodes;
 mod slices;
 mod steps;
 
 pub use chains::{followed, step};
-pub use descendants::{below_total, children_below, named};
+pub use descendants::{below_total, children_below, named, visit_total};
 pub use fault::SelectFault;
+pub use laws::{numbers_split_nodes, places_step_on, selectors_pay_in_parts};
 pub use meter::Meter;
 pub use nodes::{child_total, lone, push, push_some, reserve, wild};
 pub use path_meaning::{Link, Name};

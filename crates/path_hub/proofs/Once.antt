@@ -4,7 +4,7 @@ use Rattle.std.proofs.lemmas.List.{append-nil}
 use Rattle.tenant_map.specs.Tenancy.{Tenancy}
 use Rattle.request_replies.specs.Answers.{is_no_memory}
 use Rattle.request_replies.specs.Tenants.{BodiesAreServedOnce}
-use Rattle.request_replies.proofs.Steps.{at_false}
+use Rattle.std.proofs.lemmas.Bool.{MatchBool-at_false}
 use Rattle.path_hub.specs.Items.{Item}
 use Rattle.path_hub.specs.Runs.{Run, StepItem}
 use Rattle.path_hub.specs.Into.{sent, joined}
@@ -16,7 +16,7 @@ use Rattle.path_hub.specs.Serving.{ServesConnection, Ends, items_in}
 
 step_once : (w : BodiesAreServedOnce) (o : Option (List ℕ)) (os : Tenancy) (f g : List ℕ) (a c : Tenancy) → is_no_memory f ≡ false → is_no_memory g ≡ false → StepItem os o f a → StepItem os o g c → (f ≡ g) × (a ≡ c)
 step_once w None os f g a c p q x y = (x.0 ∙ sym y.0, x.1 ∙ sym y.1)
-step_once w (Some b) os f g a c p q x y = w os b f g a c (at_false (is_no_memory f) _ _ p x) (at_false (is_no_memory g) _ _ q y)
+step_once w (Some b) os f g a c p q x y = w os b f g a c (MatchBool-at_false _ _ p x) (MatchBool-at_false _ _ q y)
 
 run_once : (w : BodiesAreServedOnce) (conn : ℕ) (is : List Item) (fs gs : List (List ℕ)) (os a c : Tenancy) → IsPlain fs → IsPlain gs → Run os is (map (sent conn) fs) a → Run os is (map (sent conn) gs) c → (fs ≡ gs) × (a ≡ c)
 run_once w conn [] [] [] os a c p q x y = (refl, x ∙ sym y)

@@ -8,7 +8,7 @@ use Rattle.path_hub.specs.Items.{Item, Streams, after_event, items_at, items_fro
 use Rattle.path_hub.specs.Runs.{Run}
 use Rattle.path_hub.proofs.Alone.{run-append, isolated_from_run}
 use Rattle.request_replies.specs.Tenants.{fresh}
-use Rattle.request_replies.proofs.Keys.{map_of-fresh}
+use Rattle.request_replies.specs.Laws.{KeysApart}
 use Rattle.path_hub.specs.Pending.{told}
 use Rattle.path_hub.specs.Sessions.{Sessions, Agree, Replies, Applies, AppliesSome}
 use Rattle.path_hub.specs.Headline.{Replied, StopsAt}
@@ -46,23 +46,23 @@ so_far_more events i event os mid os' out out' out'' ss ss' l e f a =
           (replies-append os out (items_from no_streams (take i events)) (items_at event (streams_after no_streams (take i events))) mid out' os' out'' f.told_so_far next.1);
     }
 
-pub replied : (keys : List (List ℕ)) (os os' : Tenancy) (is : List Item) (out out' : List Reply) → os ≡ fresh keys → Replies os out is os' out' → Replied keys is out out'
-replied keys os os' is out out' e r =
+pub replied : (law : KeysApart) (keys : List (List ℕ)) (os os' : Tenancy) (is : List Item) (out out' : List Reply) → os ≡ fresh keys → Replies os out is os' out' → Replied keys is out out'
+replied law keys os os' is out out' e r =
     let run' : Run (fresh keys) is (map told r.replies) os' = subst (λ x. Run x is (map told r.replies) os') e r.run in
     record {
       replies = r.replies;
       out = r.out;
       last = os';
       run = run';
-      isolated = λ key has. isolated_from_run is (map told r.replies) (fresh keys) os' key [] run' (map_of-fresh keys key has.0 has.1 has.2);
+      isolated = λ key has. isolated_from_run law is (map told r.replies) (fresh keys) os' key [] run' (law.first keys key has.0 has.1 has.2);
     }
 
-pub so_far_all : (keys : List (List ℕ)) (events : List Event) (i : ℕ) (os os' : Tenancy) (out out' : List Reply) (ss : Sessions) → length events ≤ i → os ≡ fresh keys → IsSoFar events i os out ss os' out' → Replied keys (items events) out out'
-so_far_all keys events i os os' out out' ss l e f = replied keys os os' (items events) out out' e (subst (λ es. Replies os out (items_from no_streams es) os' out') (take_all i events l) f.told_so_far)
+pub so_far_all : (law : KeysApart) (keys : List (List ℕ)) (events : List Event) (i : ℕ) (os os' : Tenancy) (out out' : List Reply) (ss : Sessions) → length events ≤ i → os ≡ fresh keys → IsSoFar events i os out ss os' out' → Replied keys (items events) out out'
+so_far_all law keys events i os os' out out' ss l e f = replied law keys os os' (items events) out out' e (subst (λ es. Replies os out (items_from no_streams es) os' out') (take_all i events l) f.told_so_far)
 
 -- up to an event that wants memory
-pub stops_at : (keys : List (List ℕ)) (events : List Event) (i : ℕ) (event : Event) (os mid os' : Tenancy) (out out' out'' : List Reply) (ss : Sessions) → i < length events → event ≡ get_or events i event → os ≡ fresh keys → IsSoFar events i os out ss mid out' → AppliesSome event ss mid out' os' out'' → StopsAt keys events out out''
-stops_at keys events i event os mid os' out out' out'' ss l e h f a =
+pub stops_at : (law : KeysApart) (keys : List (List ℕ)) (events : List Event) (i : ℕ) (event : Event) (os mid os' : Tenancy) (out out' out'' : List Reply) (ss : Sessions) → i < length events → event ≡ get_or events i event → os ≡ fresh keys → IsSoFar events i os out ss mid out' → AppliesSome event ss mid out' os' out'' → StopsAt keys events out out''
+stops_at law keys events i event os mid os' out out' out'' ss l e h f a =
     let next = a (streams_after no_streams (take i events)) f.agree in
     record {
       done = take i events;
@@ -72,6 +72,6 @@ stops_at keys events i event os mid os' out out' out'' ss l e h f a =
       first = next.first;
       others = next.others;
       items_are = next.items_are;
-      told_first = replied keys os os' (items (take i events) ++ next.first) out out'' h (replies-append os out (items (take i events)) next.first mid out' os' out'' f.told_so_far next.told_first);
+      told_first = replied law keys os os' (items (take i events) ++ next.first) out out'' h (replies-append os out (items (take i events)) next.first mid out' os' out'' f.told_so_far next.told_first);
       wanted = next.wanted;
     }

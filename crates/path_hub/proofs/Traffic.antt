@@ -3,7 +3,7 @@ use Rattle.std.proofs.Common.{◌≡◌, ℕ, List, [], ◌∷◌, ◌++◌, len
 use Rattle.std.proofs.lemmas.List.{append-nil, append_assoc, length-map}
 use Rattle.tenant_map.specs.Tenancy.{Tenancy}
 use Rattle.path_hub.specs.Items.{Item}
-use Rattle.path_hub.specs.Runs.{Told, Run}
+use Rattle.path_hub.specs.Runs.{Sent, Run}
 use Rattle.path_hub.specs.Into.{joined, sent}
 use Rattle.path_hub.specs.Wires.{Move, Gave, Took, Traffic, Moved, read_in, written_in}
 use Rattle.path_hub.specs.Serving.{IsPaced, IsUpTo, items_in}
@@ -58,7 +58,7 @@ pub paced_took : (conn : ℕ) (fs : List (List ℕ)) (s w : List ℕ) (ps : List
 paced_took conn fs s w [] = tt
 paced_took conn fs s w (p ∷ ps) = paced_took conn fs s (w ++ p) ps
 
-pub run_length : (is : List Item) (ts : List Told) (os os' : Tenancy) → Run os is ts os' → length is ≡ length ts
+pub run_length : (is : List Item) (ts : List Sent) (os os' : Tenancy) → Run os is ts os' → length is ≡ length ts
 run_length [] [] os os' r = refl
 run_length [] (t ∷ ts) os os' r = absurd r
 run_length (i ∷ is) [] os os' r = absurd r

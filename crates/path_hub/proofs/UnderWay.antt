@@ -1,5 +1,5 @@
 -- Queries under way, as tenants and their queries change.
-use Rattle.std.proofs.Common.{◌≡◌, ◌≢◌, ◌<◌, inl, ℕ, List, [], ◌∷◌, Bool, true, false, not, ◌&&◌, ◌||◌, eqb, Option, Some, None, Result, Ok, Err, cond, refl, sym, ap, ◌∙◌, subst, arith}
+use Rattle.std.proofs.Common.{◌≡◌, ◌≢◌, ◌<◌, inl, ℕ, zero, suc, set, List, [], ◌∷◌, Bool, true, false, not, ◌&&◌, ◌||◌, eqb, Option, Some, None, Result, Ok, Err, cond, refl, sym, ap, ◌∙◌, subst, arith}
 use Rattle.std.specs.Prelude.{Box, slice_get, IfOk, IfSome, is_some, length, nat_lt}
 use Rattle.std.specs.BTreeMap.{is_at}
 use Rattle.std.specs.List.{list_any}
@@ -7,7 +7,8 @@ use Rattle.std.specs.Map.{lookup}
 use Rattle.std.specs.Option.{option_map_or}
 use Rattle.std.specs.Ordering.{nat_cmp}
 use Rattle.std.proofs.lemmas.Bool.Decides.{nat_tests}
-use Rattle.std.proofs.lemmas.Option.{none-some, same_Some}
+use Rattle.std.proofs.lemmas.List.{set-get_or}
+use Rattle.std.proofs.lemmas.Option.{get_or_from_slice_get, none-some, same_Some}
 use Rattle.std.specs.declared.alloc.Global.{Global}
 use Rattle.tenant_map.specs.Maps.{Map}
 use Rattle.tenant_map.specs.Tenancy.{Tenancy, place_in, with_map}
@@ -21,25 +22,23 @@ use Rattle.wire_frames.specs.Requests as wire
 use Rattle.wire_frames.specs.Requests.{Asks, Query, key_of}
 use Rattle.wire_frames.specs.declared.framing.Next.{Next}
 use Rattle.wire_frames.specs.declared.framing.Next.TheVariants as next
-use Rattle.json_tape.specs.Shares.{Share as ReadShare}
+use Rattle.json_tape.specs.Shares.{ReadShare}
 use Rattle.json_tape.specs.Going as Reached
 use Rattle.json_tape.specs.declared.progress.Progress.{Progress}
 use Rattle.json_tape.specs.declared.progress.Progress.TheVariants.{Paused}
-use Rattle.path_hub.specs.declared.tasks.Asked.{Asked}
+use Rattle.path_hub.specs.declared.tasks.RunningQuery.{RunningQuery}
 use Rattle.path_hub.specs.declared.tasks.Reading.{Reading}
 use Rattle.path_hub.specs.declared.tasks.Tasks.{Tasks}
-use Rattle.path_hub.specs.declared.tasks.Share.{Share}
-use Rattle.path_hub.specs.declared.tasks.Share.TheVariants as share
+use Rattle.path_hub.specs.declared.tasks.Advance.{Advance}
+use Rattle.path_hub.specs.declared.tasks.Advance.TheVariants as share
 use Rattle.request_replies.specs.Answers.{Gives, MayWant}
+use Rattle.request_replies.specs.Laws.{ServesPlaces}
 use Rattle.request_replies.specs.Shares.{Goes, IsChargeOf, IsPlaced, IsUnderWay}
 use Rattle.request_replies.specs.Tenants.{Serves}
 use Rattle.request_replies.specs.declared.placing.Placed.{Placed}
 use Rattle.path_hub.specs.Sessions.{Sessions, session, Sets}
 use Rattle.path_hub.specs.HubState.{state}
 use Rattle.path_hub.specs.UnderWay.{AreOnWay, AsksQuery, GoesOn, IsAsked, IsBodyCharge, IsChargeAt, IsFirstCharge, ReadsOn, SetsReading, SetsTask, SharesBody, SharesFirst, SharesQuery, Shares, has_other, is_held, is_kept, is_long, is_next_held, is_of_tenant, is_other, may_read, query_in, reading_at, task_at, tenant_asked}
-use Rattle.request_replies.proofs.Keys.{read_other, with_map_at}
-use Rattle.request_replies.proofs.Shares.{goes_at}
-use Rattle.request_replies.proofs.Steps.{query_may_want, serves_command, shape_at}
 use Rattle.path_hub.proofs.Calls.{one_step}
 
 at_same : (p q : ℕ) → is_at (nat_cmp p) q ≡ true → q ≡ p
@@ -57,8 +56,8 @@ none_on_way t tasks e conn a m h here = absurd (none-some a (ap (λ es. lookup (
 -- ---- One connection's query is set
 
 -- what is left is on its way, and so is what is set
-pub set_on_way : (t : Tenancy) (conn : ℕ) (v : Option Asked) (old new : Tasks) → AreOnWay t old → SetsTask conn v old new
-    → ((a : Asked) (m : Map) → v ≡ Some a → slice_get t.maps a.place ≡ Some m → Goes a.collection.items a.query.items m a.task.value) → AreOnWay t new
+pub set_on_way : (t : Tenancy) (conn : ℕ) (v : Option RunningQuery) (old new : Tasks) → AreOnWay t old → SetsTask conn v old new
+    → ((a : RunningQuery) (m : Map) → v ≡ Some a → slice_get t.maps a.place ≡ Some m → Goes a.collection.items a.query.items m a.task.value) → AreOnWay t new
 set_on_way t conn v old new w s g q a m k h = by (is_at (nat_cmp conn) q) refl
   where
     by : (b : Bool) → is_at (nat_cmp conn) q ≡ b → Goes a.collection.items a.query.items m a.task.value
@@ -69,14 +68,14 @@ pub out_on_way : (t : Tenancy) (conn : ℕ) (old new : Tasks) → AreOnWay t old
 out_on_way t conn old new w s = set_on_way t conn None old new w s (λ a m e h. absurd (none-some a e))
 
 -- set twice
-pub sets_twice : (conn : ℕ) (v w : Option Asked) (old mid new : Tasks) → SetsTask conn v old mid → SetsTask conn w mid new → SetsTask conn w old new
+pub sets_twice : (conn : ℕ) (v w : Option RunningQuery) (old mid new : Tasks) → SetsTask conn v old mid → SetsTask conn w mid new → SetsTask conn w old new
 sets_twice conn v w old mid new a b q = b q ∙ ap (cond (is_at (nat_cmp conn) q) w) (a q) ∙ twice (is_at (nat_cmp conn) q)
   where
     twice : (c : Bool) → cond c w (cond c v (task_at q old)) ≡ cond c w (task_at q old)
     twice true = refl
     twice false = refl
 
-pub sets_still : (conn : ℕ) (v : Option Asked) (old mid new : Tasks) → SetsTask conn v old mid → new.asked.entries ≡ mid.asked.entries → SetsTask conn v old new
+pub sets_still : (conn : ℕ) (v : Option RunningQuery) (old mid new : Tasks) → SetsTask conn v old mid → new.asked.entries ≡ mid.asked.entries → SetsTask conn v old new
 sets_still conn v old mid new a e q = ap (λ es. lookup (is_at (nat_cmp q)) es) e ∙ a q
 
 -- ---- Who waits
@@ -91,7 +90,7 @@ both k conn p place n e = ap (λ b. not b && eqb p place) (other k conn n) ∙ a
     own p place e = grind (arith, nat_tests)
 
 -- what another connection has of the tenant is found
-found : (conn place q : ℕ) (a : Asked) (es : List (ℕ × Asked)) → lookup (is_at (nat_cmp q)) es ≡ Some a → q ≢ conn → a.place ≡ place → list_any (is_other place conn) es ≡ true
+found : (conn place q : ℕ) (a : RunningQuery) (es : List (ℕ × RunningQuery)) → lookup (is_at (nat_cmp q)) es ≡ Some a → q ≢ conn → a.place ≡ place → list_any (is_other place conn) es ≡ true
 found conn place q a [] h n p = absurd (none-some a h)
 found conn place q a (e ∷ es) h n p = by (is_at (nat_cmp q) e.0) refl (λ h. found conn place q a es h n p)
   where
@@ -106,19 +105,19 @@ found conn place q a (e ∷ es) h n p = by (is_at (nat_cmp q) e.0) refl (λ h. f
     by true r again =
         let same : e.1 ≡ a = same_Some e.1 a (sym (ap (λ b. cond b (Some e.1) (lookup (is_at (nat_cmp q)) es)) r) ∙ h) in
         let key : e.0 ≡ q = at_same q e.0 r in
-        ap (λ b. b || rest) (both e.0 conn e.1.place place (λ k. n (sym key ∙ k)) (ap (λ (x : Asked). x.place) same ∙ p))
+        ap (λ b. b || rest) (both e.0 conn e.1.place place (λ k. n (sym key ∙ k)) (ap (λ (x : RunningQuery). x.place) same ∙ p))
     by false r again = ap (λ b. is_other place conn e || b) (again (sym (ap (λ b. cond b (Some e.1) (lookup (is_at (nat_cmp q)) es)) r) ∙ h)) ∙ or_true (is_other place conn e)
 
 -- the tenant of what a body asks
-placed_at : (t : Tenancy) (body : List ℕ) (request : Placed) → IsPlaced t body request → tenant_asked t body ≡ Some request.place
-placed_at t body request p =
-    let s = shape_at body _ p.reads in
-    ap (λ b. cond b None (place_in t.keys (key_of body))) s.0 ∙ ap (place_in t.keys) (sym s.2) ∙ p.at
+placed_at : (law : ServesPlaces) (t : Tenancy) (body : List ℕ) (request : Placed) → IsPlaced t body request → tenant_asked t body ≡ Some request.place
+placed_at law t body request p =
+    let s = law.whole body request.number p.key (asked_of request.command) p.reads in
+    ap (λ b. cond b None (place_in t.keys (key_of body))) s.0 ∙ ap (place_in t.keys) (sym s.1) ∙ p.at
 
 -- a body that does not wait is behind no query of its tenant
-pub held_behind : (conn : ℕ) (body : List ℕ) (t : Tenancy) (request : Placed) (old new : Tasks) → IsPlaced t body request → new.asked.entries ≡ old.asked.entries → is_held conn body t old ≡ false → has_other request.place conn new ≡ false
-held_behind conn body t request old new p same h =
-    ap (λ es. list_any (is_other request.place conn) es) same ∙ first (has_other request.place conn old) _ (sym (ap (λ o. option_map_or (λ place. is_kept place conn body old) o false) (placed_at t body request p)) ∙ h)
+pub held_behind : (law : ServesPlaces) (conn : ℕ) (body : List ℕ) (t : Tenancy) (request : Placed) (old new : Tasks) → IsPlaced t body request → new.asked.entries ≡ old.asked.entries → is_held conn body t old ≡ false → has_other request.place conn new ≡ false
+held_behind law conn body t request old new p same h =
+    ap (λ es. list_any (is_other request.place conn) es) same ∙ first (has_other request.place conn old) _ (sym (ap (λ o. option_map_or (λ place. is_kept place conn body old) o false) (placed_at law t body request p)) ∙ h)
   where
     first : (a b : Bool) → (a || b) ≡ false → a ≡ false
     first false b e = refl
@@ -169,8 +168,16 @@ reads_on conn places old mid new reading progress task some same was out p goes 
 }
 
 -- what a share of another task is, over tasks of which readings differ
-pub sets_before : (conn : ℕ) (v : Option Asked) (old mid new : Tasks) → mid.asked.entries ≡ old.asked.entries → SetsTask conn v mid new → SetsTask conn v old new
+pub sets_before : (conn : ℕ) (v : Option RunningQuery) (old mid new : Tasks) → mid.asked.entries ≡ old.asked.entries → SetsTask conn v mid new → SetsTask conn v old new
 sets_before conn v old mid new same s q = s q ∙ ap (λ es. cond (is_at (nat_cmp conn) q) v (lookup (is_at (nat_cmp q)) es)) same
+
+-- the map at another place
+read_other : (ms : List Map) (i j : ℕ) (m : Map) → j ≢ i → slice_get (set ms i m) j ≡ slice_get ms j
+read_other [] i j m n = refl
+read_other (x ∷ ms) zero zero m n = absurd (n refl)
+read_other (x ∷ ms) zero (suc j) m n = refl
+read_other (x ∷ ms) (suc i) zero m n = refl
+read_other (x ∷ ms) (suc i) (suc j) m n = read_other ms i j m (λ e. n (ap suc e))
 
 -- one tenant's map is another, and of its queries none is under way but one that is taken out
 pub changed_on_way : (t t' : Tenancy) (conn place : ℕ) (m : Map) (old new : Tasks) → AreOnWay t old → has_other place conn old ≡ false → SetsTask conn None old new → t' ≡ with_map t place m → AreOnWay t' new
@@ -199,7 +206,7 @@ query_is wire.Usage collection text e = absurd cc
 query_is (wire.PutNew c d x) collection text e = absurd cc
 
 -- the task that goes on is that of what is asked
-pub resumed : (t : Tenancy) (m : Map) (conn : ℕ) (request : Placed) (tasks : Tasks) (asked : Option Asked) (task : Option (Box QueryTask Global)) → AreOnWay t tasks → slice_get t.maps request.place ≡ Some m → asked ≡ task_at conn tasks
+pub resumed : (t : Tenancy) (m : Map) (conn : ℕ) (request : Placed) (tasks : Tasks) (asked : Option RunningQuery) (task : Option (Box QueryTask Global)) → AreOnWay t tasks → slice_get t.maps request.place ≡ Some m → asked ≡ task_at conn tasks
     → IfSome task (λ k. IfSome asked (λ a. IsAsked a request × (a.task ≡ k))) → (asked ≡ None → task ≡ None) → IfSome task (λ k. IsUnderWay (asked_of request.command) m k.value)
 resumed t m conn request tasks asked None w h e its only = tt
 resumed t m conn request tasks None (Some k) w h e its only = absurd (let n : Some k ≡ None = only refl in cc)
@@ -211,9 +218,9 @@ resumed t m conn request tasks (Some a) (Some k) w h e its only = (
 )
 
 -- what the connection had under way is taken out, and is put back with less left
-pub goes_on : (conn : ℕ) (request : Placed) (old mid new : Tasks) (c text : List ℕ) (asked : Option Asked) (task : Option (Box QueryTask Global)) (to : Box QueryTask Global) → SetsTask conn None old mid → asked ≡ task_at conn old
-    → ((a : Asked) → asked ≡ Some a → IsAsked a request → task ≡ Some a.task) → IfSome task (λ from. work_left to.value < work_left from.value) → asked_of request.command ≡ Query c text
-    → ((a : Asked) × IsAsked a request × (a.task ≡ to) × SetsTask conn (Some a) mid new) → GoesOn conn request.place c text old new
+pub goes_on : (conn : ℕ) (request : Placed) (old mid new : Tasks) (c text : List ℕ) (asked : Option RunningQuery) (task : Option (Box QueryTask Global)) (to : Box QueryTask Global) → SetsTask conn None old mid → asked ≡ task_at conn old
+    → ((a : RunningQuery) → asked ≡ Some a → IsAsked a request → task ≡ Some a.task) → IfSome task (λ from. work_left to.value < work_left from.value) → asked_of request.command ≡ Query c text
+    → ((a : RunningQuery) × IsAsked a request × (a.task ≡ to) × SetsTask conn (Some a) mid new) → GoesOn conn request.place c text old new
 goes_on conn request old mid new c text asked task to out was same less e (a, i, t, put) =
     let parts = same_Some (a.collection.items, a.query.items) (c, text) (sym i.1 ∙ ap query_in e) in
     record {
@@ -228,19 +235,22 @@ goes_on conn request old mid new c text asked task to out was same less e (a, i,
 
 -- a map that is set as it was
 pub stays : (t t' : Tenancy) (m m' : Map) (request : Placed) → slice_get t.maps request.place ≡ Some m → t' ≡ with_map t request.place m' → m' ≡ m → t' ≡ t
-stays t t' m m' request h x y = x ∙ ap (with_map t request.place) y ∙ with_map_at t request.place m h
+stays t t' m m' request h x y =
+    let same : set t.maps request.place m ≡ t.maps = ap (set t.maps request.place) (sym (get_or_from_slice_get t.maps request.place m m h)) ∙ set-get_or t.maps request.place m in
+    x ∙ ap (with_map t request.place) y ∙ ap (λ ms. record t { maps = ms }) same
 
 pub kept_on_way : (t t' : Tenancy) (m m' : Map) (conn : ℕ) (request : Placed) (old mid new : Tasks) (to : Box QueryTask Global) → AreOnWay t old → slice_get t.maps request.place ≡ Some m → t' ≡ with_map t request.place m' → m' ≡ m → SetsTask conn None old mid
-    → IsUnderWay (asked_of request.command) m to.value → ((a : Asked) × IsAsked a request × (a.task ≡ to) × SetsTask conn (Some a) mid new) → AreOnWay t' new
+    → IsUnderWay (asked_of request.command) m to.value → ((a : RunningQuery) × IsAsked a request × (a.task ≡ to) × SetsTask conn (Some a) mid new) → AreOnWay t' new
 kept_on_way t t' m m' conn request old mid new to w h x y out u (a, i, e, put) =
     subst (λ k. AreOnWay k new) (sym (stays t t' m m' request h x y)) (set_on_way t conn (Some a) mid new (out_on_way t conn old mid w out) put (λ b n s k. on b n (same_Some a b s) k))
   where
-    on : (b : Asked) (n : Map) → a ≡ b → slice_get t.maps b.place ≡ Some n → Goes b.collection.items b.query.items n b.task.value
+    on : (b : RunningQuery) (n : Map) → a ≡ b → slice_get t.maps b.place ≡ Some n → Goes b.collection.items b.query.items n b.task.value
     on b n s k =
-        let p : b.place ≡ request.place = ap (λ (x : Asked). x.place) (sym s) ∙ i.0 in
+        let p : b.place ≡ request.place = ap (λ (x : RunningQuery). x.place) (sym s) ∙ i.0 in
         let same : m ≡ n = same_Some m n (sym h ∙ ap (λ j. slice_get t.maps j) (sym p) ∙ k) in
-        let g : Goes a.collection.items a.query.items m to.value = goes_at (asked_of request.command) a.collection.items a.query.items m to.value (query_is (asked_of request.command) a.collection.items a.query.items i.1) u in
-        subst (λ (x : Asked). Goes x.collection.items x.query.items n x.task.value) s
+        let its = same_Some (u.0, u.1) (a.collection.items, a.query.items) (sym (ap query_in u.2) ∙ i.1) in
+        let g : Goes a.collection.items a.query.items m to.value = subst (λ (k : List ℕ × List ℕ). Goes k.0 k.1 m to.value) its u.3 in
+        subst (λ (x : RunningQuery). Goes x.collection.items x.query.items n x.task.value) s
         (subst (λ y. Goes a.collection.items a.query.items y a.task.value) same (subst (λ (j : Box QueryTask Global). Goes a.collection.items a.query.items m j.value) (sym e) g))
 
 -- what is asked, as it is copied
@@ -257,10 +267,10 @@ body_charge None t body request m p h c = tt
 body_charge (Some units) t body request m p h (c, text, e, k) = (asks_query t body request c text p e, m, h, k)
 
 -- it is answered
-pub replied : (charge : Option ℕ) (conn : ℕ) (t t' : Tenancy) (body : List ℕ) (request : Placed) (m m' : Map) (tasks tasks' : Tasks) (before after : List ℕ) → IsPlaced t body request → slice_get t.maps request.place ≡ Some m → t' ≡ with_map t request.place m'
+pub replied : (law : ServesPlaces) (charge : Option ℕ) (conn : ℕ) (t t' : Tenancy) (body : List ℕ) (request : Placed) (m m' : Map) (tasks tasks' : Tasks) (before after : List ℕ) → IsPlaced t body request → slice_get t.maps request.place ≡ Some m → t' ≡ with_map t request.place m'
     → Gives m (asked_of request.command) request.number before after m' → IsChargeOf charge (asked_of request.command) m → SetsTask conn None tasks tasks' → SharesQuery (share.Replied charge) conn body t tasks before t' tasks' after
-replied charge conn t t' body request m m' tasks tasks' before after p h x g c s = (
-  subst (λ k. Serves t body before after k) (sym x) (serves_command t body before after request.number request.place p.key (asked_of request.command) m m' p.reads p.at h g),
+replied law charge conn t t' body request m m' tasks tasks' before after p h x g c s = (
+  subst (λ k. Serves t body before after k) (sym x) (law.served t body before after request.number request.place p.key (asked_of request.command) m m' p.reads p.at h g),
   s,
   body_charge charge t body request m p h c,
 )
@@ -270,12 +280,12 @@ pub works : (conn : ℕ) (t t' : Tenancy) (body : List ℕ) (request : Placed) (
     → asked_of request.command ≡ Query c text → GoesOn conn request.place c text tasks tasks' → SharesQuery share.Working conn body t tasks before t' tasks' after
 works conn t t' body request m m' c text tasks tasks' before after p h x y o e g = (stays t t' m m' request h x y, o, (asks_query t body request c text p e, g))
 
--- the same queries are under way
+-- the query of a connection stays where all entries do
 pub task_same : (conn : ℕ) (old mid : Tasks) → mid.asked.entries ≡ old.asked.entries → task_at conn mid ≡ task_at conn old
 task_same conn old mid same = ap (λ es. lookup (is_at (nat_cmp conn)) es) same
 
 -- over tasks of which readings differ
-pub shares_before : (s : Share) (conn : ℕ) (body : List ℕ) (t t' : Tenancy) (old mid new : Tasks) (before after : List ℕ) → mid.asked.entries ≡ old.asked.entries → SharesQuery s conn body t mid before t' new after → SharesBody s conn body t old before t' new after
+pub shares_before : (s : Advance) (conn : ℕ) (body : List ℕ) (t t' : Tenancy) (old mid new : Tasks) (before after : List ℕ) → mid.asked.entries ≡ old.asked.entries → SharesQuery s conn body t mid before t' new after → SharesBody s conn body t old before t' new after
 shares_before (share.Replied charge) conn body t t' old mid new before after same h = (h.0, sets_before conn None old mid new same h.1, h.2)
 shares_before share.Working conn body t t' old mid new before after same h =
     let g = h.2.1 in (
@@ -286,8 +296,8 @@ shares_before share.Working conn body t t' old mid new before after same h =
 shares_before share.Idle conn body t t' old mid new before after same h = absurd h
 
 -- or one for which memory runs out
-pub may_want : (asked : wire.Asked) (n : ℕ) (m : Map) (task : QueryTask) → IsUnderWay asked m task → MayWant asked n m
-may_want asked n m task (c, text, e, g) = subst (λ k. MayWant k n m) (sym e) (query_may_want c text n m g.valid.short)
+pub may_want : (law : ServesPlaces) (asked : wire.Asked) (n : ℕ) (m : Map) (task : QueryTask) → IsUnderWay asked m task → MayWant asked n m
+may_want law asked n m task (c, text, e, g) = subst (λ k. MayWant k n m) (sym e) (law.wanted c text n m g.valid.short)
 
 -- ---- A share of work on a connection is one of the hub
 
@@ -299,13 +309,13 @@ charge_at : (charge : Option ℕ) (conn : ℕ) (ss : Sessions) (os : Tenancy) (f
 charge_at None conn ss os f h c = tt
 charge_at (Some units) conn ss os f h c = (f, h, c)
 
-pub shared : (laws : Splitting) (conn : ℕ) (ss ss' : Sessions) (os os' : Tenancy) (tasks tasks' : Tasks) (f f' : Framing) (before after : List ℕ) (s : Share) → session conn ss ≡ Some f → Sets conn (Some f') ss ss' → (f' ≡ f → ss' ≡ ss)
+pub shared : (laws : Splitting) (conn : ℕ) (ss ss' : Sessions) (os os' : Tenancy) (tasks tasks' : Tasks) (f f' : Framing) (before after : List ℕ) (s : Advance) → session conn ss ≡ Some f → Sets conn (Some f') ss ss' → (f' ≡ f → ss' ≡ ss)
     → SharesFirst s conn f os tasks before f' os' tasks' after → Shares s conn (state ss os) tasks before (state ss' os') tasks' after
 shared laws conn ss ss' os os' tasks tasks' f f' before after (share.Replied charge) h sets stay a = (one_step laws conn ss ss' os os' f f' before after true h sets stay a.0, a.1, charge_at charge conn ss os f h a.2)
 shared laws conn ss ss' os os' tasks tasks' f f' before after share.Idle h sets stay a = (one_step laws conn ss ss' os os' f f' before after false h sets stay a.0, a.1)
 shared laws conn ss ss' os os' tasks tasks' f f' before after share.Working h sets stay a = (ap (λ x. state x os') (stay a.0) ∙ ap (state ss) a.1, a.2, (f, h, a.3))
 
-pub shares : {E : Type 0} (laws : Splitting) (conn : ℕ) (ss ss' : Sessions) (os os' : Tenancy) (tasks tasks' : Tasks) (f f' : Framing) (before after : List ℕ) (r : Result Share E) → session conn ss ≡ Some f → Sets conn (Some f') ss ss' → (f' ≡ f → ss' ≡ ss)
+pub shares : {E : Type 0} (laws : Splitting) (conn : ℕ) (ss ss' : Sessions) (os os' : Tenancy) (tasks tasks' : Tasks) (f f' : Framing) (before after : List ℕ) (r : Result Advance E) → session conn ss ≡ Some f → Sets conn (Some f') ss ss' → (f' ≡ f → ss' ≡ ss)
     → IfOk r (λ s. SharesFirst s conn f os tasks before f' os' tasks' after) → IfOk r (λ s. Shares s conn (state ss os) tasks before (state ss' os') tasks' after)
 shares laws conn ss ss' os os' tasks tasks' f f' before after (Ok s) h sets stay a = shared laws conn ss ss' os os' tasks tasks' f f' before after s h sets stay a
 shares laws conn ss ss' os os' tasks tasks' f f' before after (Err e) h sets stay a = a

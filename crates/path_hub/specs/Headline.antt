@@ -10,12 +10,12 @@ use Rattle.path_hub.specs.declared.fault.RunFault.TheVariants as fault
 use Rattle.request_replies.specs.Answers.{Alone}
 use Rattle.request_replies.specs.Tenants.{fresh}
 use Rattle.path_hub.specs.Items.{Item, items, items_at, no_streams, streams_after}
-use Rattle.path_hub.specs.Runs.{Told, Run, own_requests, own_replies}
+use Rattle.path_hub.specs.Runs.{Sent, Run, own_requests, own_replies}
 use Rattle.path_hub.specs.Pending.{told}
 use Rattle.path_hub.specs.Sessions.{EventWants}
 
 -- Each tenant's replies, those that memory ran out aside, are byte for byte those that its own requests get from a plain map.
-abbrev pub IsIsolated : List (List ℕ) → List Item → List Told → Type 0
+abbrev pub IsIsolated : List (List ℕ) → List Item → List Sent → Type 0
 IsIsolated keys is ts = (key : List ℕ) → Contains keys key → Alone [] (own_requests key is ts) (own_replies key is ts)
 
 -- one reply for each of these items, in order and on the item's connection

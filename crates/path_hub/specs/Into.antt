@@ -8,12 +8,12 @@ use Rattle.path_hub.specs.declared.fault.TakeFault.{TakeFault}
 use Rattle.path_hub.specs.declared.fault.TakeFault.TheVariants as take
 use Rattle.path_hub.specs.declared.fault.HubFault.{HubFault}
 use Rattle.path_hub.specs.declared.fault.HubFault.TheVariants as fault
-use Rattle.path_hub.specs.Runs.{Told, Run}
+use Rattle.path_hub.specs.Runs.{Sent, Run}
 use Rattle.path_hub.specs.Pending.{Answered, IsDue, pending, item, IsSound}
 use Rattle.path_hub.specs.Sessions.{session, Sets}
 use Rattle.path_hub.specs.HubState.{HubState}
 
-abbrev pub sent : ℕ → List ℕ → Told
+abbrev pub sent : ℕ → List ℕ → Sent
 sent conn frame = record { conn = conn; frame = frame }
 
 abbrev pub joined : List (List ℕ) → List ℕ

@@ -6,7 +6,7 @@ use Rattle.tenant_map.specs.Tenancy.{Tenancy}
 use Rattle.request_replies.specs.Answers.{Alone, is_no_memory}
 use Rattle.request_replies.specs.Tenants.{map_of}
 use Rattle.path_hub.specs.Items.{Item}
-use Rattle.path_hub.specs.Runs.{Told, Run, own_requests, own_replies}
+use Rattle.path_hub.specs.Runs.{Sent, Run, own_requests, own_replies}
 use Rattle.path_hub.specs.Into.{sent, joined}
 use Rattle.path_hub.specs.HubState.{HubState}
 use Rattle.path_hub.specs.Wires.{Move, Meaning, Traffic, read_in, written_in}
@@ -14,7 +14,7 @@ use Rattle.path_hub.specs.Serving.{ServesConnection, Ends, items_in}
 
 -- each tenant's own replies are those that its own requests get from its map alone
 abbrev pub RunsApart : Type 0
-RunsApart = (items : List Item) (replies : List Told) (old new : Tenancy) (key : List ℕ) (m : Map) → Run old items replies new → map_of key old ≡ Some m
+RunsApart = (items : List Item) (replies : List Sent) (old new : Tenancy) (key : List ℕ) (m : Map) → Run old items replies new → map_of key old ≡ Some m
     → Alone m (own_requests key items replies) (own_replies key items replies)
 
 -- what moved on a wire is bytes read and the replies to the items of these bytes

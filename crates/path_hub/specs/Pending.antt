@@ -5,7 +5,7 @@ use Rattle.wire_frames.specs.Framing.{Framing}
 use Rattle.tenant_map.specs.Tenancy.{Tenancy}
 use Rattle.path_hub.specs.declared.event.Reply.{Reply}
 use Rattle.path_hub.specs.Items.{Item}
-use Rattle.path_hub.specs.Runs.{Told, StepItem, Run}
+use Rattle.path_hub.specs.Runs.{Sent, StepItem, Run}
 
 -- the bodies of the frames that wait, and the fault after them
 abbrev pub bodies_in : List ℕ → List (Option (List ℕ))
@@ -46,7 +46,7 @@ pub record IsDue (f : Framing) : Type 0 where
 abbrev pub item : ℕ → Option (List ℕ) → Item
 item conn body = record { conn = conn; body = body }
 
-abbrev pub told : Reply → Told
+abbrev pub told : Reply → Sent
 told r = record { conn = r.conn; frame = r.frame.items }
 
 -- some of what is pending is answered, in order

@@ -9,7 +9,7 @@ use Rattle.request_replies.specs.Answers.{is_no_memory}
 use Rattle.path_hub.specs.Items.{Item}
 
 -- a reply and its connection
-pub record Told : Type 0 where
+pub record Sent : Type 0 where
   pub conn : ℕ
   pub frame : List ℕ
 
@@ -18,7 +18,7 @@ StepItem old (Some body) frame new = Step old body frame new
 StepItem old None frame new = (frame ≡ reply 255 0 []) × (new ≡ old)
 
 -- from the first tenants these replies to these items lead to the last
-abbrev pub Run : Tenancy → List Item → List Told → Tenancy → Type 0
+abbrev pub Run : Tenancy → List Item → List Sent → Tenancy → Type 0
 Run old [] [] new = new ≡ old
 Run old (i ∷ is) (t ∷ ts) new = (mid : Tenancy) × (t.conn ≡ i.conn) × StepItem old i.body t.frame mid × Run mid is ts new
 Run old [] (t ∷ ts) new = ⊥
@@ -38,12 +38,12 @@ body_in None = []
 body_in (Some body) = body
 
 -- the tenant's own requests, and the replies to them
-abbrev pub own_requests : List ℕ → List Item → List Told → List (List ℕ)
+abbrev pub own_requests : List ℕ → List Item → List Sent → List (List ℕ)
 own_requests key [] ts = []
 own_requests key (i ∷ is) [] = []
 own_requests key (i ∷ is) (t ∷ ts) = if is_own key i.body t.frame then body_in i.body ∷ own_requests key is ts else own_requests key is ts
 
-abbrev pub own_replies : List ℕ → List Item → List Told → List (List ℕ)
+abbrev pub own_replies : List ℕ → List Item → List Sent → List (List ℕ)
 own_replies key [] ts = []
 own_replies key (i ∷ is) [] = []
 own_replies key (i ∷ is) (t ∷ ts) = if is_own key i.body t.frame then t.frame ∷ own_replies key is ts else own_replies key is ts

@@ -38,7 +38,7 @@ IsCounted m turns = (turns < 1000000) × (m.reads ≤ 18446744073708551615)
 abbrev pub Turns : ℕ → HubState → Meaning → Option ConnEnd → HubState → Meaning → Type 0
 Turns conn h' n end' h'' n' = (h : HubState) (m : Meaning) (turns : ℕ) → IsCounted m turns → Serving conn h m turns h' n → AfterTurn conn h m turns end' h'' n'
 
--- the same from a piece that was just read
+-- a piece as it was just read
 pub record IsPiece (piece : List ℕ) : Type 0 where
   pub some : 0 < length piece
   pub few : length piece ≤ longest_piece

@@ -21,11 +21,11 @@ use Rattle.wire_frames.specs.declared.framing.Next.TheVariants as next
 use Rattle.wire_frames.specs.Readings.{asked_of}
 use Rattle.wire_frames.specs.Requests as wire
 use Rattle.wire_frames.specs.Requests.{Asks, Query, key_of, reading}
-use Rattle.path_hub.specs.declared.tasks.Asked.{Asked}
+use Rattle.path_hub.specs.declared.tasks.RunningQuery.{RunningQuery}
 use Rattle.path_hub.specs.declared.tasks.Reading.{Reading}
 use Rattle.path_hub.specs.declared.tasks.Tasks.{Tasks}
-use Rattle.path_hub.specs.declared.tasks.Share.{Share}
-use Rattle.path_hub.specs.declared.tasks.Share.TheVariants as share
+use Rattle.path_hub.specs.declared.tasks.Advance.{Advance}
+use Rattle.path_hub.specs.declared.tasks.Advance.TheVariants as share
 use Rattle.request_replies.specs.Shares.{Goes, IsCharge}
 use Rattle.request_replies.specs.Tenants.{Serves, is_short}
 use Rattle.request_replies.specs.declared.placing.Placed.{Placed}
@@ -35,15 +35,15 @@ use Rattle.path_hub.specs.HubState.{HubState}
 use Rattle.path_hub.specs.Into.{AnswersOne, AnswersNone}
 
 -- what a connection has under way
-abbrev pub task_at : ℕ → Tasks → Option Asked
+abbrev pub task_at : ℕ → Tasks → Option RunningQuery
 task_at conn tasks = lookup (is_at (nat_cmp conn)) tasks.asked.entries
 
 -- that of one connection is set, and the others stay
-abbrev pub SetsTask : ℕ → Option Asked → Tasks → Tasks → Type 0
+abbrev pub SetsTask : ℕ → Option RunningQuery → Tasks → Tasks → Type 0
 SetsTask conn v old new = (q : ℕ) → task_at q new ≡ (if is_at (nat_cmp conn) q then v else task_at q old)
 
 -- it is the query of the tenant at this place, on this collection, with this text
-abbrev pub IsOf : Asked → (place : ℕ) → (collection text : List ℕ) → Type 0
+abbrev pub IsOf : RunningQuery → (place : ℕ) → (collection text : List ℕ) → Type 0
 IsOf a place collection text = (a.place ≡ place) × (a.collection.items ≡ collection) × (a.query.items ≡ text)
 
 -- the collection and the text of a query that is asked
@@ -58,19 +58,19 @@ query_in wire.Usage = None
 query_in (wire.PutNew collection document text) = None
 
 -- it is what is asked
-abbrev pub IsAsked : Asked → Placed → Type 0
+abbrev pub IsAsked : RunningQuery → Placed → Type 0
 IsAsked a request = (a.place ≡ request.place) × (query_in (asked_of request.command) ≡ Some (a.collection.items, a.query.items))
 
 -- each query under way is on its way to its answer from its tenant's map
 abbrev pub AreOnWay : Tenancy → Tasks → Type 0
-AreOnWay t tasks = (conn : ℕ) (a : Asked) (m : Map) → task_at conn tasks ≡ Some a → slice_get t.maps a.place ≡ Some m → Goes a.collection.items a.query.items m a.task.value
+AreOnWay t tasks = (conn : ℕ) (a : RunningQuery) (m : Map) → task_at conn tasks ≡ Some a → slice_get t.maps a.place ≡ Some m → Goes a.collection.items a.query.items m a.task.value
 
 -- the connection's query is under way, with less left than it had
 pub record GoesOn (conn place : ℕ) (collection text : List ℕ) (old new : Tasks) : Type 0 where
-  pub asked : Asked
+  pub asked : RunningQuery
   pub sets : SetsTask conn (Some asked) old new
   pub its : IsOf asked place collection text
-  pub less : (a : Asked) → task_at conn old ≡ Some a → IsOf a place collection text → work_left asked.task.value < work_left a.task.value
+  pub less : (a : RunningQuery) → task_at conn old ≡ Some a → IsOf a place collection text → work_left asked.task.value < work_left a.task.value
 
 -- ---- Readings
 
@@ -109,7 +109,7 @@ abbrev pub tenant_asked : Tenancy → List ℕ → Option ℕ
 tenant_asked t body = if is_short body then None else place_in t.keys (key_of body)
 
 -- a query of the tenant, which another connection asked
-abbrev pub is_other : (place conn : ℕ) → ℕ × Asked → Bool
+abbrev pub is_other : (place conn : ℕ) → ℕ × RunningQuery → Bool
 is_other place conn e = not (e.0 == conn) && (e.1.place == place)
 
 -- another connection has a query of the tenant under way
@@ -153,7 +153,7 @@ IsBodyCharge (Some units) body t = (a : AsksQuery body t) × (m : Map) × (slice
 abbrev pub WorksOn : ℕ → List ℕ → Tenancy → (old new : Tasks) → Type 0
 WorksOn conn body t old new = ((a : AsksQuery body t) × GoesOn conn a.place a.collection a.text old new) ⊎ ((is_long body ≡ true) × ReadsOn conn old new)
 
--- the same of the first body that waits
+-- the charge is that of the first body that waits
 abbrev pub IsFirstCharge : Option ℕ → Framing → Tenancy → Type 0
 IsFirstCharge None f t = Unit {0}
 IsFirstCharge (Some units) f t = (body : List ℕ) × (behind : List ℕ) × (front f.waiting ≡ Whole body behind) × IsBodyCharge (Some units) body t
@@ -167,31 +167,31 @@ IsChargeAt None conn h = Unit {0}
 IsChargeAt (Some units) conn h = (f : Framing) × (session conn h.sessions ≡ Some f) × IsFirstCharge (Some units) f h.tenants
 
 -- What a share of work on a body leaves, whose text is not read: the step of its reply, or nothing but a query under way.
-abbrev pub SharesQuery : Share → ℕ → List ℕ → Tenancy → Tasks → List ℕ → Tenancy → Tasks → List ℕ → Type 0
+abbrev pub SharesQuery : Advance → ℕ → List ℕ → Tenancy → Tasks → List ℕ → Tenancy → Tasks → List ℕ → Type 0
 SharesQuery (share.Replied charge) conn body t tasks before t' tasks' after = Serves t body before after t' × SetsTask conn None tasks tasks' × IsBodyCharge charge body t
 SharesQuery share.Working conn body t tasks before t' tasks' after = (t' ≡ t) × (after ≡ before) × ((a : AsksQuery body t) × GoesOn conn a.place a.collection a.text tasks tasks')
 SharesQuery share.Idle conn body t tasks before t' tasks' after = ⊥
 
 -- on any body
-abbrev pub SharesBody : Share → ℕ → List ℕ → Tenancy → Tasks → List ℕ → Tenancy → Tasks → List ℕ → Type 0
+abbrev pub SharesBody : Advance → ℕ → List ℕ → Tenancy → Tasks → List ℕ → Tenancy → Tasks → List ℕ → Type 0
 SharesBody (share.Replied charge) conn body t tasks before t' tasks' after = Serves t body before after t' × SetsTask conn None tasks tasks' × IsBodyCharge charge body t
 SharesBody share.Working conn body t tasks before t' tasks' after = (t' ≡ t) × (after ≡ before) × WorksOn conn body t tasks tasks'
 SharesBody share.Idle conn body t tasks before t' tasks' after = ⊥
 
 -- on what is first on a connection
-abbrev pub SharesFirst : Share → ℕ → Framing → Tenancy → Tasks → List ℕ → Framing → Tenancy → Tasks → List ℕ → Type 0
+abbrev pub SharesFirst : Advance → ℕ → Framing → Tenancy → Tasks → List ℕ → Framing → Tenancy → Tasks → List ℕ → Type 0
 SharesFirst (share.Replied charge) conn f t tasks before f' t' tasks' after = Answered f t before f' t' after × SetsTask conn None tasks tasks' × IsFirstCharge charge f t
 SharesFirst share.Idle conn f t tasks before f' t' tasks' after = IsIdle f t before f' t' after × (tasks' ≡ tasks)
 SharesFirst share.Working conn f t tasks before f' t' tasks' after = (f' ≡ f) × (t' ≡ t) × (after ≡ before) × WorksOnFirst conn f t tasks tasks'
 
 -- on a connection of a hub, of which only a reply changes the state
-abbrev pub Shares : Share → ℕ → HubState → Tasks → List ℕ → HubState → Tasks → List ℕ → Type 0
+abbrev pub Shares : Advance → ℕ → HubState → Tasks → List ℕ → HubState → Tasks → List ℕ → Type 0
 Shares (share.Replied charge) conn old tasks before new tasks' after = AnswersOne conn old before new after × SetsTask conn None tasks tasks' × IsChargeAt charge conn old
 Shares share.Idle conn old tasks before new tasks' after = AnswersNone conn old before new after × (tasks' ≡ tasks)
 Shares share.Working conn old tasks before new tasks' after = (new ≡ old) × (after ≡ before) × ((f : Framing) × (session conn old.sessions ≡ Some f) × WorksOnFirst conn f old.tenants tasks tasks')
 
 -- no work is left
-abbrev pub HasEnded : Share → Type 0
+abbrev pub HasEnded : Advance → Type 0
 HasEnded (share.Replied charge) = Unit {0}
 HasEnded share.Idle = Unit {0}
 HasEnded share.Working = ⊥
@@ -200,7 +200,7 @@ HasEnded share.Working = ⊥
 
 -- the units with which it begins: those of the connection's query where it is this one, or all
 pub record BeginsWith (conn place : ℕ) (collection text : List ℕ) (old : Tasks) (left : ℕ) : Type 0 where
-  pub going : (a : Asked) → task_at conn old ≡ Some a → IsOf a place collection text → left ≡ units_left a.task.value
+  pub going : (a : RunningQuery) → task_at conn old ≡ Some a → IsOf a place collection text → left ≡ units_left a.task.value
   pub anew : task_at conn old ≡ None → left ≡ budget
 
 -- a share of the query that a body asks spends so many units and one step of it
@@ -215,22 +215,22 @@ pub record SpendsOnBody (conn : ℕ) (body : List ℕ) (t : Tenancy) (old : Task
   pub spends : SpendsShare tree (documents_of asks.collection map) units left to
 
 -- where it goes on, or its charge is told
-abbrev pub SpendsQuery : Share → (conn : ℕ) → (body : List ℕ) → Tenancy → (old new : Tasks) → (units : ℕ) → Type 0
+abbrev pub SpendsQuery : Advance → (conn : ℕ) → (body : List ℕ) → Tenancy → (old new : Tasks) → (units : ℕ) → Type 0
 SpendsQuery (share.Replied None) conn body t old new units = Unit {0}
 SpendsQuery (share.Replied (Some charge)) conn body t old new units = SpendsOnBody conn body t old units (Complete charge)
 SpendsQuery share.Idle conn body t old new units = Unit {0}
-SpendsQuery share.Working conn body t old new units = (a : Asked) × (task_at conn new ≡ Some a) × SpendsOnBody conn body t old units (Paused a.task.value)
+SpendsQuery share.Working conn body t old new units = (a : RunningQuery) × (task_at conn new ≡ Some a) × SpendsOnBody conn body t old units (Paused a.task.value)
 
 -- or the text of a long body is read on
-abbrev pub SpendsBody : Share → (conn : ℕ) → (body : List ℕ) → Tenancy → (old new : Tasks) → (units : ℕ) → Type 0
+abbrev pub SpendsBody : Advance → (conn : ℕ) → (body : List ℕ) → Tenancy → (old new : Tasks) → (units : ℕ) → Type 0
 SpendsBody (share.Replied charge) conn body t old new units = SpendsQuery (share.Replied charge) conn body t old new units
 SpendsBody share.Idle conn body t old new units = Unit {0}
 SpendsBody share.Working conn body t old new units = ((is_long body ≡ true) × ReadsOn conn old new) ⊎ SpendsQuery share.Working conn body t old new units
 
--- the same of the first body that waits
-abbrev pub SpendsFirst : Share → ℕ → Framing → Tenancy → (old new : Tasks) → (units : ℕ) → Type 0
+-- a share spends its units on the first body that waits
+abbrev pub SpendsFirst : Advance → ℕ → Framing → Tenancy → (old new : Tasks) → (units : ℕ) → Type 0
 SpendsFirst s conn f t old new units = (body behind : List ℕ) → front f.waiting ≡ Whole body behind → SpendsBody s conn body t old new units
 
 -- and on a connection
-abbrev pub SpendsAt : Share → ℕ → HubState → (old new : Tasks) → (units : ℕ) → Type 0
+abbrev pub SpendsAt : Advance → ℕ → HubState → (old new : Tasks) → (units : ℕ) → Type 0
 SpendsAt s conn h old new units = (f : Framing) → session conn h.sessions ≡ Some f → SpendsFirst s conn f h.tenants old new units

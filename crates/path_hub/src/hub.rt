@@ -14,8 +14,9 @@ use crate::event::{Event, Reply};
 use crate::fault::{ConnectFault, HubFault, RunFault, TakeFault};
 use crate::sharing::{Work, answer_some, waits_first};
 use crate::step::{answer_all, answer_next};
-use crate::tasks::{Share, Tasks};
+use crate::tasks::{Advance, Tasks};
 use query_cache::Cache;
+use request_replies::tenants_are_apart;
 use std::alloc::{AllocError, Global};
 use std::collections::BTreeMap;
 use std::marker::Model;
@@ -203,7 +204,7 @@ impl Hub {
         units: u64,
         tasks: &mut Tasks,
         out: &mut Vec<u8>,
-    ) -> Result<Share, AllocError>
+    ) -> Result<Advance, AllocError>
         requires on_way { AreOnWay self.old.tenants tasks.old }
         requires free { is_first_held conn self.old tasks.old ≡ false }
         ensures shares { IfOk result (λ share. Shares share conn self.old tasks.old out.old.items self.new tasks.new out.new.items) }
@@ -331,7 +332,7 @@ fn share_at(
     tasks: &mut Tasks,
     work: Work,
     out: &mut Vec<u8>,
-) -> Result<Share, AllocError>
+) -> Result<Advance, AllocError>
     requires on_way { AreOnWay tenants.old tasks.old }
     requires free { is_first_held work.conn (state sessions.old.entries tenants.old) tasks.old ≡ false }
     ensures shares { IfOk result (λ share. Shares share work.conn (state sessions.old.entries tenants.old) tasks.old out.old.items (state sessions.new.entries tenants.new) tasks.new out.new.items) }
@@ -344,7 +345,7 @@ fn share_at(
 {
     splits_from_the_front();
     match sessions.get_mut(&work.conn) {
-        None => Ok(Share::Idle),
+        None => Ok(Advance::Idle),
         Some(framer) => answer_some(framer, tenants, cache, tasks, work, out),
     }
 }
@@ -406,6 +407,7 @@ pub fn run(
 ) -> Result<(), RunFault>
     ensures { Runs keys.now events.now out.old.items result out.new.items }
 {
+    tenants_are_apart();
     let mut hub = match Hub::new(alloc, keys) {
         Ok(hub) => hub,
         Err(TenantsFault::Memory) => return Err(RunFault::Memory),

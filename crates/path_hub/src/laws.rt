@@ -2,14 +2,16 @@
 ghost use Rattle.path_hub.specs.Laws.{ServedBytes, ServedOnce, RunsApart};
 ghost use Rattle.path_hub.specs.Standing.{Standing};
 
-use request_replies::told_once;
+use request_replies::{tenants_are_apart, told_once};
 use wire_frames::splits_from_the_front;
 
 /// A tenant's replies, without those for which memory ran out, are those that its own requests get from its map. The tenants at the start
 /// and the order of the answers do not matter.
 pub fn runs_apart()
     ensures { RunsApart }
-{}
+{
+    tenants_are_apart();
+}
 
 /// In whatever order pieces are taken and frames answered, the frames answered are the first of the connection's stream.
 pub fn sessions_stand_in_streams()

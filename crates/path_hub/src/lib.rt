@@ -20,5 +20,5 @@ pub use laws::{cuts_do_not_matter, runs_apart, served_bytes, sessions_stand_in_s
 pub use memory_wire::{Call, MemoryWire, Moved};
 pub use serving::serve_connection;
 pub use sharing::place_asked;
-pub use tasks::{READINGS, Reading, Share, Tasks};
+pub use tasks::{Advance, READINGS, Reading, Tasks};
 pub use wire::{ConnEnd, Wire, WireFault, write_all};

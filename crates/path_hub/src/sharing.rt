@@ -8,20 +8,17 @@ ghost use Rattle.request_replies.specs.Shares.{IsPlaced};
 ghost use Rattle.path_hub.specs.Pending.{IsDue};
 ghost use Rattle.path_hub.specs.UnderWay.{AreOnWay, HasEnded, ReadsOn, SharesBody, SharesFirst, SharesQuery, SpendsBody, SpendsFirst, SpendsQuery, has_other, is_held, is_kept, is_long, is_next_held, task_at, tenant_asked};
 
-use crate::tasks::{Read, Share, Tasks, task_for};
+use crate::tasks::{Advance, Read, Tasks, task_for};
 use json_tape::Verdict;
 use query_cache::Cache;
-use request_replies::{NO_MEMORY, Placed, SHORT_REPLY, SoFar, answer, place_request, write_small};
+use request_replies::{
+    NO_MEMORY, Placed, SHORT_REPLY, SoFar, answer, place_request, places_are_served, write_small,
+};
 use std::alloc::{AllocError, Global};
+use store_names::{FIELDS_AT, KEY_AT};
 use tape_select::BUDGET;
 use tenant_store::Tenants;
 use wire_frames::{Command, Framer, Front};
-
-/// Where a request's key begins in its body, behind the command and the number.
-const KEY_AT: usize = 5;
-
-/// Where it ends.
-const KEY_END: usize = 21;
 
 /// A body of more bytes may have a text that is read a share at a time.
 const LONG: usize = 65_536;
@@ -44,11 +41,11 @@ pub struct Work {
 pub fn place_asked(tenants: &Tenants, body: &[u8]) -> Option<usize>
     ensures { result ≡ tenant_asked tenants.now body.now }
 {
-    if body.len() < KEY_END {
+    if body.len() < FIELDS_AT {
         return None;
     }
     let mut key = [0u8; 16];
-    key.copy_from_slice(&body[KEY_AT..KEY_END]);
+    key.copy_from_slice(&body[KEY_AT..FIELDS_AT]);
     tenants.place_of(&key)
 }
 
@@ -110,7 +107,7 @@ fn share_request(
     request: &Placed<'_>,
     known: Option<Box<Verdict>>,
     out: &mut Vec<u8>,
-) -> Share
+) -> Advance
     requires room { vec_len out.old + 21 ≤ vec_capacity out.old }
     requires on_way { AreOnWay tenants.old tasks.old }
     requires inside { request.now.place < length tenants.old.maps }
@@ -120,16 +117,17 @@ fn share_request(
     ensures little { (body : List ℕ) → IsPlaced tenants.old body request.now → SpendsQuery result work.conn body tenants.old tasks.old tasks.new work.units }
     ensures whole { budget ≤ work.units → task_at work.conn tasks.old ≡ None → HasEnded result }
 {
+    places_are_served();
     let task = task_for(tasks.take(work.conn), request);
     let so_far = SoFar { known, task };
     let map = tenants.tenant_mut(request.place);
     match answer(map, cache, work.alloc, request, work.units, so_far, out) {
-        Ok(charge) => Share::Replied { charge },
-        Err(task) => match tasks.keep(work.alloc, work.conn, request, task) {
-            Ok(()) => Share::Working,
+        Ok(charge) => Advance::Replied { charge },
+        Err(task) => match tasks.keep_query(work.alloc, work.conn, request, task) {
+            Ok(()) => Advance::Working,
             Err(_) => {
                 write_small(NO_MEMORY, request.number, &[], out);
-                Share::Replied { charge: None }
+                Advance::Replied { charge: None }
             }
         },
     }
@@ -143,7 +141,7 @@ fn serve_some(
     work: Work,
     body: &[u8],
     out: &mut Vec<u8>,
-) -> Share
+) -> Advance
     requires room { vec_len out.old + 21 ≤ vec_capacity out.old }
     requires on_way { AreOnWay tenants.old tasks.old }
     requires free { is_held work.conn body.now tenants.old tasks.old ≡ false }
@@ -152,14 +150,15 @@ fn serve_some(
     ensures little { SpendsBody result work.conn body.now tenants.old tasks.old tasks.new work.units }
     ensures whole { budget ≤ work.units → task_at work.conn tasks.old ≡ None → HasEnded result }
 {
+    places_are_served();
     match place_request(tenants, body) {
         Err(refused) => {
             tasks.abandon(work.conn);
             write_small(refused.status, refused.number, &[], out);
-            Share::Replied { charge: None }
+            Advance::Replied { charge: None }
         }
         Ok(request) => match read_some(tasks, work, body, &request) {
-            Read::Further => Share::Working,
+            Read::Further => Advance::Working,
             Read::Over(known) => {
                 share_request(tenants, cache, tasks, work, &request, known, out)
             }
@@ -175,7 +174,7 @@ pub fn answer_some(
     tasks: &mut Tasks,
     work: Work,
     out: &mut Vec<u8>,
-) -> Result<Share, AllocError>
+) -> Result<Advance, AllocError>
     requires on_way { AreOnWay tenants.old tasks.old }
     requires free { is_next_held work.conn (next_of framer.old) tenants.old tasks.old ≡ false }
     ensures shares { IfOk result (λ share. SharesFirst share work.conn framer.old tenants.old tasks.old out.old.items framer.new tenants.new tasks.new out.new.items) }
@@ -189,23 +188,23 @@ pub fn answer_some(
     ensures same_out { OnErr result (out.new.items ≡ out.old.items) }
 {
     if framer.is_closed() {
-        return Ok(Share::Idle);
+        return Ok(Advance::Idle);
     }
     match framer.front() {
-        Front::Wait => Ok(Share::Idle),
+        Front::Wait => Ok(Advance::Idle),
         Front::Fault => {
             out.reserve(SHORT_REPLY)?;
             tasks.abandon(work.conn);
             write_small(FRAME_FAULT, 0, &[], out);
             framer.pass();
-            Ok(Share::Replied { charge: None })
+            Ok(Advance::Replied { charge: None })
         }
         Front::Frame(body) => {
             out.reserve(SHORT_REPLY)?;
             match serve_some(tenants, cache, tasks, work, body, out) {
-                Share::Replied { charge } => {
+                Advance::Replied { charge } => {
                     framer.pass();
-                    Ok(Share::Replied { charge })
+                    Ok(Advance::Replied { charge })
                 }
                 share => Ok(share),
             }

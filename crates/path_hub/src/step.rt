@@ -5,7 +5,7 @@ ghost use Rattle.path_hub.specs.Pending.{Answered, IsIdle, IsDue, AnswersSome, p
 
 use crate::event::Reply;
 use crate::sharing::{Work, answer_some};
-use crate::tasks::{Share, Tasks};
+use crate::tasks::{Advance, Tasks};
 use query_cache::Cache;
 use std::alloc::{AllocError, Global};
 use tape_select::BUDGET;
@@ -36,8 +36,8 @@ pub fn answer_next(
         units: BUDGET,
     };
     match answer_some(framer, tenants, cache, &mut tasks, work, out) {
-        Ok(Share::Idle) => Ok(false),
-        Ok(Share::Replied { .. } | Share::Working) => Ok(true),
+        Ok(Advance::Idle) => Ok(false),
+        Ok(Advance::Replied { .. } | Advance::Working) => Ok(true),
         Err(fault) => Err(fault),
     }
 }

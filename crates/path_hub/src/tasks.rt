@@ -4,7 +4,7 @@ ghost use Rattle.std.specs.Prelude.{◌≡◌, ◌<◌, IfSome, OnOk, OnErr, Non
 ghost use Rattle.std.specs.Option.{option_map};
 ghost use Rattle.tenant_map.specs.Tenancy.{Tenancy};
 ghost use Rattle.wire_frames.specs.Readings.{asked_of};
-ghost use Rattle.path_hub.specs.declared.tasks.Asked.{Asked};
+ghost use Rattle.path_hub.specs.declared.tasks.RunningQuery.{RunningQuery};
 ghost use Rattle.path_hub.specs.UnderWay.{AreOnWay, IsAsked, ReadsOn, SetsReading, SetsTask, has_other, is_read_for, may_read, query_in, reading_at, task_at};
 ghost use Rattle.path_hub.specs.declared.tasks.Reading.{Reading};
 ghost use Rattle.json_tape.specs.Going.{GoesOn};
@@ -21,7 +21,7 @@ pub const READINGS: usize = 4;
 
 /// What came of a share of work on a connection.
 #[derive(Clone, Copy, Debug, PartialEq, Eq)]
-pub enum Share {
+pub enum Advance {
     /// A frame or a fault was answered.
     Replied {
         /// The units that a query was charged, where its hits are the reply.
@@ -35,7 +35,7 @@ pub enum Share {
 
 /// A query under way: the place of its tenant, and what it asks.
 #[derive(Drop)]
-pub struct Asked {
+pub struct RunningQuery {
     pub place: usize,
     pub collection: Vec<u8>,
     pub query: Vec<u8>,
@@ -59,7 +59,7 @@ pub(crate) enum Read {
 /// The queries under way, one of each tenant at most, and the texts that are read, each with its index and a tape that grows.
 #[derive(Drop)]
 pub struct Tasks {
-    asked: BTreeMap<u32, Asked>,
+    asked: BTreeMap<u32, RunningQuery>,
     readings: BTreeMap<u32, Reading>,
 }
 
@@ -164,7 +164,7 @@ impl Tasks {
     }
 
     /// Takes the connection's query out.
-    pub(crate) fn take(&mut self, conn: u32) -> Option<Asked>
+    pub(crate) fn take(&mut self, conn: u32) -> Option<RunningQuery>
         ensures was { result ≡ task_at conn self.old }
         ensures sets { SetsTask conn None self.old self.new }
         ensures same { self.new.readings.entries ≡ self.old.readings.entries }
@@ -173,20 +173,20 @@ impl Tasks {
     }
 
     /// Has a query under way on a connection. A refusal drops it, and leaves the others. Nothing else that is asked may be under way.
-    pub(crate) fn keep(
+    pub(crate) fn keep_query(
         &mut self,
         alloc: Global,
         conn: u32,
         request: &Placed<'_>,
         task: Box<QueryTask>,
     ) -> Result<(), AllocError>
-        ensures ok { OnOk result ((a : Asked) × IsAsked a request.now × (a.task ≡ task) × SetsTask conn (Some a) self.old self.new) }
+        ensures ok { OnOk result ((a : RunningQuery) × IsAsked a request.now × (a.task ≡ task) × SetsTask conn (Some a) self.old self.new) }
         ensures err { OnErr result (self.new.asked.entries ≡ self.old.asked.entries) }
     {
         let Some((collection, query)) = query_asked(&request.command) else {
             return Err(AllocError);
         };
-        let asked = Asked {
+        let asked = RunningQuery {
             place: request.place,
             collection: Vec::from_slice(alloc, collection.bytes)?,
             query: Vec::from_slice(alloc, query)?,
@@ -231,10 +231,10 @@ fn query_asked<'a>(command: &Command<'a>) -> Option<(CollName<'a>, &'a [u8])>
 }
 
 /// The task of a query under way, where it is what is asked.
-pub(crate) fn task_for(asked: Option<Asked>, request: &Placed<'_>) -> Option<Box<QueryTask>>
+pub(crate) fn task_for(asked: Option<RunningQuery>, request: &Placed<'_>) -> Option<Box<QueryTask>>
     ensures its { IfSome result (λ task. IfSome asked (λ a. IsAsked a request.now × (a.task ≡ task))) }
     ensures only { asked ≡ None → result ≡ None }
-    ensures same { (a : Asked) → asked ≡ Some a → IsAsked a request.now → result ≡ Some a.task }
+    ensures same { (a : RunningQuery) → asked ≡ Some a → IsAsked a request.now → result ≡ Some a.task }
 {
     let Some((collection, query)) = query_asked(&request.command) else {
         return None;

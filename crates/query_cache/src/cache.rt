@@ -116,7 +116,7 @@ impl Cache {
             return Ok(None);
         }
         let query = compile(alloc, text)?;
-        Ok(keep(queries, alloc, text, query))
+        Ok(keep_parsed(queries, alloc, text, query))
     }
 
     /// Lends the query of a text in the cache.
@@ -145,7 +145,7 @@ fn bring_forward(queries: &mut LruCache<Vec<u8>, ValidQuery>, text: &[u8]) -> bo
 }
 
 /// Inserts the query of a new text at the front, or returns it if there is no memory.
-fn keep(
+fn keep_parsed(
     queries: &mut LruCache<Vec<u8>, ValidQuery>,
     alloc: Global,
     text: &[u8],

@@ -41,11 +41,8 @@ use Rattle.query_machine.specs.declared.levels.Waiting.{Waiting}
 use Rattle.std.proofs.lemmas.List.{append-nil}
 use Rattle.std.proofs.lemmas.List.Elements.{All-nil, All-cons}
 use Rattle.query_machine.specs.Cursors.{IsStride}
-use Rattle.node_lists.proofs.Adding.{append_nil}
-use Rattle.node_lists.proofs.Following.{refuses_from, nothing_from_nothing, nothing_for_nothing}
-use Rattle.query_plan.proofs.Links.{through_links, links_charged_first}
-use Rattle.tape_select.proofs.Awaits.{awaits_behind}
-use Rattle.tape_select.proofs.Found.{found_through}
+use Rattle.query_plan.specs.Laws.{FollowsLinks}
+use Rattle.query_machine.proofs.Charges.{refuses_from, nothing_from_nothing, nothing_for_nothing}
 use Rattle.query_machine.proofs.Stacks.{in_turn}
 
 pub leads_on : (d : Doc) (all : List Node) (q : Segments) (ss : List OneSegment) (from : Node) (units left rest_left : ℕ) (t u : Track) → Leads d all q ss from units left t → Goes d ss t u left rest_left → Leads d all q ss from units rest_left u
@@ -201,13 +198,13 @@ begins_some d (s ∷ ss) item c n t lt e z v w k i nodes charged cs o =
     let os = segments_in ss in
     let a : ahead d x c ≡ nodes_from root x n = rw e at nodes in
     let u : due d x c ≡ charge_at root x n = rw e at charged in
-    let m = ap (λ ns. charge_from root (segments_of os) ns) (append_nil (nodes_from root x n)) in
+    let m = ap (λ ns. charge_from root (segments_of os) ns) (append-nil (nodes_from root x n)) in
     record {
       under_way = record {
         cursors = rw cs (All-cons (IsCursor d (length (segments_in (s ∷ ss)))) c [] (record { stage = rw z (omega arith); visit = λ lt. v; end = w; child = rw k tt; stride = i }) (All-nil (IsCursor d (length (segments_in (s ∷ ss))))));
         sound = rw o (All-nil (λ id. id.0 < count d));
       };
-      ahead = rw (cs, o, z, a) (ap (λ ns. evaluated root (segments_of os) ns) (sym (append_nil (nodes_from root x n))));
+      ahead = rw (cs, o, z, a) (ap (λ ns. evaluated root (segments_of os) ns) (sym (append-nil (nodes_from root x n))));
       due = rw (cs, z, a, u) (omega (arith, m));
     }
 
@@ -219,7 +216,7 @@ begins_lowest d plan units n t e b =
     let y = rw e at b.due in
     record { under_way = b.under_way; ahead = a; due = omega (arith, y) }
 
-module _ (d : Doc) (plan : Parts) (q : Nested) (slot : ℕ) (is : (out-Nested q).slot ≡ Some slot) (claimed : AreClaimed (claims_of plan.stages.items) (nested_view q).claims) where
+module _ (law : FollowsLinks) (d : Doc) (plan : Parts) (q : Nested) (slot : ℕ) (is : (out-Nested q).slot ≡ Some slot) (claimed : AreClaimed (claims_of plan.stages.items) (nested_view q).claims) where
   -- Its names and indexes lead to one node: it is above. So many units were left, some were paid for those before it, and some for these names and indexes.
   pub begins_above : (child from first : NodeId) (left paid own now lower_due : ℕ) → from.0 < count d → node_at d from.0 ≡ start (node_at d 0) (out-Nested q).from_root (node_at d child.0)
       → paid + charge_nested (node_at d 0) (nested_view q).tree (node_at d child.0) ≤ lower_due → own + paid ≡ left
@@ -232,13 +229,13 @@ module _ (d : Doc) (plan : Parts) (q : Nested) (slot : ℕ) (is : (out-Nested q)
       let ls = (out-Nested q).links.items in
       let ss = (out-Nested q).stages.items in
       let y = b.due in
-      let all = links_charged_first r ss ls n (node_at d first.0 ∷ []) f in
+      let all = law.paid r ss ls n (node_at d first.0 ∷ []) f in
       let whole = nested_charge r (node_at d child.0) n slot q is e in
       record {
         inside = inside;
         leads = rw (p.path, p.behind) (record {
           under_way = b.under_way;
-          ahead = b.ahead ∙ ap (λ ns. evaluated r (query_of ss) ns) f ∙ sym (through_links r ss ls (n ∷ []));
+          ahead = b.ahead ∙ ap (λ ns. evaluated r (query_of ss) ns) f ∙ sym (law.found r ss ls (n ∷ []));
           due = omega (arith, y, all, m);
         });
         part = rw p.path (omega (arith, whole, within, spent));
@@ -254,10 +251,10 @@ module _ (d : Doc) (plan : Parts) (q : Nested) (slot : ℕ) (is : (out-Nested q)
       let p = has_parts (claims_of plan.stages.items) slot q is claimed in
       let ls = (out-Nested q).links.items in
       let ss = (out-Nested q).stages.items in
-      let all = links_charged_first r ss ls n [] e in
+      let all = law.paid r ss ls n [] e in
       let free = nothing_for_nothing r (query_of ss) in
-      found_at d (look (claims_of plan.stages.items) slot) n f
-      (rw p.path (found_through d ls ss n [] [] f e (sym (nothing_from_nothing r (query_of ss))) value inside total (omega (arith, all, free, m, charge))))
+      let none : [] ≡ evaluated r (links_path ls ss) (n ∷ []) = sym (nothing_from_nothing r (query_of ss)) ∙ ap (λ ns. evaluated r (query_of ss) ns) e ∙ sym (law.found r ss ls (n ∷ [])) in
+      found_at d (look (claims_of plan.stages.items) slot) n f (rw p.path (record { value = rw (← none) value; inside = inside; total = rw (← none) total; charge = omega (arith, all, free, m, charge) }))
 
   -- the units do not suffice for its names and indexes
   pub refuses_links : (child from : NodeId) (left paid own lower_due : ℕ) (e : SelectFault) → node_at d from.0 ≡ start (node_at d 0) (out-Nested q).from_root (node_at d child.0)
@@ -268,7 +265,7 @@ module _ (d : Doc) (plan : Parts) (q : Nested) (slot : ℕ) (is : (out-Nested q)
       let n = node_at d from.0 in
       let ls = (out-Nested q).links.items in
       let ss = (out-Nested q).stages.items in
-      let all = links_charged_first r ss ls n (evaluated r (links_view ls) (n ∷ [])) refl in
+      let all = law.paid r ss ls n (evaluated r (links_view ls) (n ∷ [])) refl in
       let whole = nested_charge r (node_at d child.0) n slot q is b in
       refuses_from (charge_from r (links_view ls) (n ∷ [])) own lower_due left e (λ lt. omega (arith, all, whole, within, spent, lt)) h
 
@@ -281,7 +278,7 @@ module _ (d : Doc) (plan : Parts) (q : Nested) (slot : ℕ) (is : (out-Nested q)
       let n = node_at d from.0 in
       let ls = (out-Nested q).links.items in
       let ss = (out-Nested q).stages.items in
-      let all = links_charged_first r ss ls n (evaluated r (links_view ls) (n ∷ [])) refl in
+      let all = law.paid r ss ls n (evaluated r (links_view ls) (n ∷ [])) refl in
       let whole = nested_charge r (node_at d child.0) n slot q is b in
       omega (arith, all, whole, within, spent, m)
 
@@ -303,7 +300,7 @@ module _ (d : Doc) (plan : Parts) where
       let e = b.due in
       let z = ap (λ (cs : List Cursor). remaining_due d (segments_in plan.stages.items) cs) c in
       record {
-        nodes = sym (append_nil (nodes_of d l.track.out.items)) ∙ ap (λ (cs : List Cursor). nodes_of d l.track.out.items ++ remaining d (segments_in plan.stages.items) cs) (sym c) ∙ b.ahead;
+        nodes = sym (append-nil (nodes_of d l.track.out.items)) ∙ ap (λ (cs : List Cursor). nodes_of d l.track.out.items ++ remaining d (segments_in plan.stages.items) cs) (sym c) ∙ b.ahead;
         inside = b.under_way.sound;
         paid = omega (arith, e, z);
       }
@@ -319,7 +316,7 @@ module _ (d : Doc) (plan : Parts) where
         below = k.0;
         inside = k.1.inside;
         held = record {
-          same = sym (append_nil (nodes_of d t.out.items)) ∙ ap (λ (cs : List Cursor). nodes_of d t.out.items ++ remaining d (behind_at plan o) cs) (sym c) ∙ l.ahead;
+          same = sym (append-nil (nodes_of d t.out.items)) ∙ ap (λ (cs : List Cursor). nodes_of d t.out.items ++ remaining d (behind_at plan o) cs) (sym c) ∙ l.ahead;
           inside = l.under_way.sound;
         };
         paid = omega (arith, e, z);
@@ -342,6 +339,11 @@ module _ (d : Doc) (plan : Parts) where
 asking_due : (d : Doc) (ss : List OneSegment) (cs : List Cursor) (c : Cursor) (e : Expr) (child : NodeId) → condition_at c.asked (segment_at ss c.stage).selectors ≡ Some e → c.child ≡ Some child
     → charge_expr (node_at d 0) e (node_at d child.0) ≤ owed d ss c
 asking_due d ss cs c e child f is = rw (f, is) (omega arith)
+
+-- behind what is paid already
+awaits_behind : (d : Doc) (table : Claims) (n : Node) (y : Option (Bor Nested)) (p q r a c : ℕ) → p + a ≤ c → r ≤ p + q → AwaitsSome d table n y q a → AwaitsSome d table n y r c
+awaits_behind d table n None p q r a c h s w = omega (arith, h, s, w)
+awaits_behind d table n (Some x) p q r a c h s w = let k = w.within in record { within = omega (arith, h, s, k); slot = w.slot; claimed = w.claimed }
 
 price_is : (d : Doc) (s : OneSegment) (c : Cursor) (e : Expr) (child : NodeId) → condition_at c.asked s.selectors ≡ Some e → c.child ≡ Some child → price d s c ≡ 2 + charge_expr (node_at d 0) e (node_at d child.0)
 price_is d s c e child f is = rw (f, is) refl

@@ -3,25 +3,21 @@ use Rattle.std.proofs.Common.{map, ◌≡◌, ℕ, zero, suc, ◌+◌, ◌-◌, 
 use Rattle.std.specs.Prelude.{flat_map, ◌^◌, IfSome, SomeIff}
 use Rattle.std.specs.Option.{is_none}
 use Rattle.std.proofs.lemmas.Grind.{flat_map-append}
-use Rattle.std.proofs.lemmas.List.{map-append, length-reverse}
+use Rattle.std.proofs.lemmas.List.{append-nil, length-reverse}
 use Rattle.std.proofs.Math.Nat.{suc-mul, mul-add}
-use Rattle.std.proofs.lemmas.List.Elements.{All-nil}
 use Rattle.path_grammar.specs.Tree.{Selectors, no_selectors, selector, selectors_of, Selector, name, wild, index, filter, slice}
 use Rattle.json_tape.specs.Tree.{Tree, Leaf, Arr, Obj}
 use Rattle.path_grammar.specs.declared.ast.IntLit.{IntLit}
 use Rattle.std.specs.Prelude.{int_lt}
 use Rattle.tape_values.specs.Selection.{bound_or, in_order, is_selected, lower, picked, sliced, sliced_by, start_default, step_of, stop_default, upper}
 use Rattle.json_tape.specs.Nodes.{Node, Step, children, children_of, elements, elements_of, visit}
-use Rattle.json_tape.specs.Document.{Doc, count, counting, following, node_at, seen, single}
+use Rattle.json_tape.specs.Document.{Doc, count, following, node_at, single}
 use Rattle.json_text.specs.declared.tape.NodeId.{NodeId}
 use Rattle.node_lists.specs.Evaluation.{selected, selected_by, starts}
 use Rattle.node_lists.specs.Charge.{total_of, charge_in, charge_by}
-use Rattle.node_lists.specs.Extra.{charge_at, count_of, extra_by, extra_in, nodes_from}
+use Rattle.node_lists.specs.Extra.{charge_at, count_of, nodes_from}
 use Rattle.node_lists.specs.Nodelists.{nodes_between, nodes_of}
-use Rattle.node_lists.proofs.Visits.{visit_charged, visit_length, visit_more}
-use Rattle.tape_select.proofs.Filtering.{leaf_holds, leaf_costs}
-use Rattle.node_lists.proofs.Adding.{append_nil}
-use Rattle.node_lists.proofs.Following.{one_unit, refuses_from}
+use Rattle.node_lists.specs.Laws.{PaysInParts, SplitsNodes}
 use Rattle.node_lists.specs.Paying.{Refuses}
 use Rattle.node_lists.specs.declared.fault.SelectFault.{SelectFault}
 use Rattle.node_lists.specs.Links.{link_selector}
@@ -29,28 +25,10 @@ use Rattle.path_meaning.specs.declared.links.Link.{Link}
 use Rattle.query_plan.specs.Planned.{selection_view, stage_view, trees}
 use Rattle.query_plan.specs.declared.plan.Selection.{Selection}
 use Rattle.query_plan.specs.declared.plan.Stage.{Stage}
-use Rattle.query_plan.proofs.LoneLinks.{stage_is}
 use Rattle.query_machine.specs.Cursors.{ahead, condition_in, due, AreUnasked, Drains, GivesNode, IsPassed, IsStride, Runs, Takes}
 use Rattle.query_machine.specs.declared.cursor.Cursor.{Cursor}
-use Rattle.query_machine.proofs.Steps.{all_visited, all_visits_due, only_visits, only_visits_due}
-
-module _ (root : Node) where
-  by_parts : (s : Selector) (n : Node) → charge_by root s n ≡ 1 + extra_by root s n
-  by_parts (name scalars) n = refl
-  by_parts wild n = refl
-  by_parts (index i) n = refl
-  by_parts (filter e) n = omega arith
-  by_parts (slice start stop step) n = refl
-
-  in_parts : (ss : Selectors) (n : Node) → charge_in root ss n ≡ count_of ss + extra_in root ss n
-  in_parts no_selectors n = refl
-  in_parts (selector s others) n = let a = by_parts s n in let b = in_parts others n in omega (arith, a, b)
-
-  pub leaf_charge : (ss : Selectors) (n : Node) → children n ≡ [] → charge_in root ss n ≡ count_of ss
-  leaf_charge ss n e = let a = in_parts ss n in let b = leaf_costs root ss n (sym e) in omega (arith, a, b)
-
-pub leaf_nothing : (d : Doc) (ss : Selectors) (n : Node) → children n ≡ [] → selected (node_at d 0) ss n ≡ []
-leaf_nothing d ss n e = let h = leaf_holds (node_at d 0) ss d [] n (All-nil (λ id. id.0 < count d)) (sym e) in sym h.same
+use Rattle.query_machine.proofs.Charges.{one_unit, refuses_from, stage_is}
+use Rattle.query_machine.proofs.Steps.{between_more, all_visited, all_visits_due, only_visits, only_visits_due}
 
 -- so many nodes from which nothing is selected
 module _ (d : Doc) (ss : Selectors) (w : ℕ) where
@@ -61,7 +39,7 @@ module _ (d : Doc) (ss : Selectors) (w : ℕ) where
       let z : k + suc m ≡ k + 1 + m = omega arith in
       let here = none k (omega arith) (omega arith) in
       let rest = passed_nodes m (k + 1) e (omega (arith, h)) (λ j a b. none j (omega (arith, a)) (omega (arith, b))) in
-      rw z (visit_more (λ n. selected (node_at d 0) ss n) d k e (omega (arith, h)) ∙ ap (λ ns. ns ++ flat_map (selected (node_at d 0) ss) (nodes_between d (k + 1) e)) here ∙ rest)
+      rw z (ap (flat_map (selected (node_at d 0) ss)) (between_more d k e (omega (arith, h))) ∙ ap (λ ns. ns ++ flat_map (selected (node_at d 0) ss) (nodes_between d (k + 1) e)) here ∙ rest)
 
   pub passed_charge : (m k e : ℕ) → k + m ≤ e → ((j : ℕ) → k ≤ j → j < k + m → charge_in (node_at d 0) ss (node_at d j) ≡ w)
       → total_of (charge_in (node_at d 0) ss) (nodes_between d k e) ≡ m * w + total_of (charge_in (node_at d 0) ss) (nodes_between d (k + m) e)
@@ -70,7 +48,7 @@ module _ (d : Doc) (ss : Selectors) (w : ℕ) where
       let z : k + suc m ≡ k + 1 + m = omega arith in
       let here = each k (omega arith) (omega arith) in
       let rest = passed_charge m (k + 1) e (omega (arith, h)) (λ j a b. each j (omega (arith, a)) (omega (arith, b))) in
-      let more = visit_charged (λ n. charge_in (node_at d 0) ss n) d k e (omega (arith, h)) in
+      let more = ap (total_of (charge_in (node_at d 0) ss)) (between_more d k e (omega (arith, h))) in
       let times = suc-mul m w in
       rw z (omega (arith, here, rest, more, times))
 
@@ -80,20 +58,6 @@ count_is (x ∷ xs) = ap suc (count_is xs)
 
 count_all : (s : Stage) → count_of (stage_view s).tree.selectors ≡ length s.selections.items
 count_all s = rw (stage_is s) (count_is s.selections.items)
-
-counting_split : (k m n : ℕ) → counting k (m + n) ≡ counting k m ++ counting (k + m) n
-counting_split k zero n = let none : 0 + n ≡ n = omega arith in let same : k + 0 ≡ k = omega arith in rw (none, same) refl
-counting_split k (suc m) n =
-    let more : suc m + n ≡ suc (m + n) = omega arith in
-    let next : k + suc m ≡ suc k + m = omega arith in
-    rw (more, next) (ap (λ ks. k ∷ ks) (counting_split (suc k) m n))
-
-between_split : (d : Doc) (from mid to : ℕ) → from ≤ mid → mid ≤ to → nodes_between d from to ≡ nodes_between d from mid ++ nodes_between d mid to
-between_split d from mid to a b =
-    let e : to - from ≡ (mid - from) + (to - mid) = omega (arith, a, b) in
-    let f : from + (mid - from) ≡ mid = omega (arith, a) in
-    let c : counting from (to - from) ≡ counting from (mid - from) ++ counting mid (to - mid) = rw e (counting_split from (mid - from) (to - mid) ∙ rw f refl) in
-    ap (seen d) c ∙ map-append (node_at d) (counting from (mid - from)) (counting mid (to - mid))
 
 total_append : (f : Node → ℕ) (xs ys : List Node) → total_of f (xs ++ ys) ≡ total_of f xs + total_of f ys
 total_append f [] ys = omega arith
@@ -147,8 +111,8 @@ module _ (d : Doc) (s : Stage) (c : Cursor) (no : c.child ≡ None) (passed : c.
       let times = ap (λ x. x * w) m ∙ suc-mul (k - c.visit) w in
       let h = passes_all k left (rest_left + w) least (omega (arith, most)) each (omega (arith, paid, times)) in
       let hp = h.paid in
-      let more = visit_more (λ n. selected (node_at d 0) t.selectors n) d k c.end most in
-      let costs = visit_charged (λ n. charge_in (node_at d 0) t.selectors n) d k c.end most in
+      let more = ap (flat_map (selected (node_at d 0) t.selectors)) (between_more d k c.end most) in
+      let costs = ap (total_of (charge_in (node_at d 0) t.selectors)) (between_more d k c.end most) in
       let one = some.charge in
       let p = due_here k in
       let q = due_here (k + 1) in
@@ -163,16 +127,16 @@ module _ (d : Doc) (s : Stage) (c : Cursor) (no : c.child ≡ None) (passed : c.
       }
 
   -- all that it selects from the first node and its descendants is out
-  pub drains_visit : (k : ℕ) (out new : List NodeId) (left rest_left : ℕ) → s.descend ≡ true → c.visit ≤ k → k ≤ c.end → nodes_between d c.visit k ≡ visit (node_at d c.visit)
+  pub drains_visit : (split : SplitsNodes) (k : ℕ) (out new : List NodeId) (left rest_left : ℕ) → s.descend ≡ true → c.visit ≤ k → k ≤ c.end → nodes_between d c.visit k ≡ visit (node_at d c.visit)
       → Takes d (stage_view s).tree (node_at d c.visit) true out new left rest_left → Drains d (stage_view s).tree c (visit_then c k) out new left rest_left
-  drains_visit k out new left rest_left down least most all h =
+  drains_visit split k out new left rest_left down least most all h =
       let t = (stage_view s).tree in
       let root = node_at d 0 in
       let n = node_at d c.visit in
       let front : starts t.descend n ≡ nodes_between d c.visit k = rw (stage_is s, down) (sym all) in
       let gives : nodes_from root t n ≡ flat_map (selected root t.selectors) (nodes_between d c.visit k) = ap (flat_map (selected root t.selectors)) front in
       let costs : charge_at root t n ≡ total_of (charge_in root t.selectors) (nodes_between d c.visit k) = ap (total_of (charge_in root t.selectors)) front in
-      let parts = between_split d c.visit k c.end least most in
+      let parts = split d c.visit k c.end least most in
       let whole = ap (flat_map (selected root t.selectors)) parts ∙ flat_map-append (selected root t.selectors) (nodes_between d c.visit k) (nodes_between d k c.end) in
       let sums = ap (total_of (charge_in root t.selectors)) parts ∙ total_append (charge_in root t.selectors) (nodes_between d c.visit k) (nodes_between d k c.end) in
       let p = due_here c.visit in
@@ -191,15 +155,15 @@ module _ (d : Doc) (s : Stage) (c : Cursor) (no : c.child ≡ None) (passed : c.
         stride = fits;
       }
 
-  pub refuses_visit : (k left : ℕ) (e : SelectFault) → s.descend ≡ true → c.visit ≤ k → k ≤ c.end → nodes_between d c.visit k ≡ visit (node_at d c.visit)
+  pub refuses_visit : (split : SplitsNodes) (k left : ℕ) (e : SelectFault) → s.descend ≡ true → c.visit ≤ k → k ≤ c.end → nodes_between d c.visit k ≡ visit (node_at d c.visit)
       → Refuses (charge_at (node_at d 0) (stage_view s).tree (node_at d c.visit)) left e → Refuses (due d (stage_view s).tree c) left e
-  refuses_visit k left e down least most all h =
+  refuses_visit split k left e down least most all h =
       let t = (stage_view s).tree in
       let root = node_at d 0 in
       let n = node_at d c.visit in
       let front : starts t.descend n ≡ nodes_between d c.visit k = rw (stage_is s, down) (sym all) in
       let costs : charge_at root t n ≡ total_of (charge_in root t.selectors) (nodes_between d c.visit k) = ap (total_of (charge_in root t.selectors)) front in
-      let sums = ap (total_of (charge_in root t.selectors)) (between_split d c.visit k c.end least most) ∙ total_append (charge_in root t.selectors) (nodes_between d c.visit k) (nodes_between d k c.end) in
+      let sums = ap (total_of (charge_in root t.selectors)) (split d c.visit k c.end least most) ∙ total_append (charge_in root t.selectors) (nodes_between d c.visit k) (nodes_between d k c.end) in
       let p = due_here c.visit in
       refuses_from (charge_at root t n) left (due d t c) left e (λ lt. omega (arith, lt, p, sums, costs)) h
 
@@ -210,8 +174,13 @@ childless d None ns b is h e = sym e
 childless d (Some n) ns b is h e = absurd cc
 
 module _ (d : Doc) (s : Stage) (k : ℕ) where
-  pub passed_leaf : children (node_at d k) ≡ [] → IsPassed d s k
-  passed_leaf e = let ss = (stage_view s).tree.selectors in record { nothing = leaf_nothing d ss (node_at d k) e; charge = leaf_charge (node_at d 0) ss (node_at d k) e ∙ count_all s }
+  pub passed_leaf : PaysInParts → children (node_at d k) ≡ [] → IsPassed d s k
+  passed_leaf law e =
+      let ss = (stage_view s).tree.selectors in
+      let parts = law.parts (node_at d 0) ss (node_at d k) in
+      let free = law.free (node_at d 0) ss (node_at d k) e in
+      let all = count_all s in
+      record { nothing = law.nothing (node_at d 0) ss (node_at d k) e; charge = omega (arith, parts, free, all) }
 
   module _ (l : Link) (only : (stage_view s).tree.selectors ≡ selector (link_selector l) no_selectors) where
     link_charge : charge_in (node_at d 0) (stage_view s).tree.selectors (node_at d k) ≡ length s.selections.items
@@ -221,7 +190,7 @@ module _ (d : Doc) (s : Stage) (k : ℕ) where
         rw only (omega (arith, u, c))
 
     link_selects : selected (node_at d 0) (stage_view s).tree.selectors (node_at d k) ≡ selected_by (node_at d 0) (link_selector l) (node_at d k)
-    link_selects = rw only (append_nil (selected_by (node_at d 0) (link_selector l) (node_at d k)))
+    link_selects = rw only (append-nil (selected_by (node_at d 0) (link_selector l) (node_at d k)))
 
     pub passed_link : [] ≡ selected_by (node_at d 0) (link_selector l) (node_at d k) → IsPassed d s k
     passed_link e = record { nothing = link_selects ∙ sym e; charge = link_charge }
@@ -312,10 +281,5 @@ pub most_if : (d : Doc) (s : Stage) (n : Node) (r : Option ℕ) (nodes : ℕ) �
 most_if d s n None nodes c h e = tt
 most_if d s n (Some most) nodes c h e = let m = c.1 in let a = most_at d s n nodes h e in omega (arith, m, a)
 
--- the nodes from which a segment selects, and their children, by numbers
-pub counted_below : (d : Doc) (k after below : ℕ) → seen d (counting k (after - k)) ≡ visit (node_at d k) → below ≡ length (flat_map children (visit (node_at d k)))
-    → length (visit (node_at d k)) + length (flat_map children (visit (node_at d k))) ≡ (after - k) + below
-counted_below d k after below v e = let l = visit_length d k (after - k) (visit (node_at d k)) v in omega (arith, l, e)
-
 pub counted_one : (n : Node) (total : ℕ) → total ≡ length (children n) → length (n ∷ []) + length (flat_map children (n ∷ [])) ≡ 1 + total
-counted_one n total e = let l = ap (λ (ns : List Node). length ns) (append_nil (children n)) in omega (arith, l, e)
+counted_one n total e = let l = ap (λ (ns : List Node). length ns) (append-nil (children n)) in omega (arith, l, e)

@@ -1,3 +1,4 @@
+pub mod Charges
 pub mod Strides
 pub mod Steps
 pub mod Stacks

@@ -4,7 +4,7 @@ use Rattle.std.specs.Prelude.{flat_map, true, IfOk, MatchOption, MatchResult}
 use Rattle.std.specs.List.{All}
 use Rattle.std.proofs.lemmas.List.Elements.{All-pop}
 use Rattle.std.proofs.lemmas.Grind.{common_steps}
-use Rattle.std.proofs.lemmas.List.{drop_all}
+use Rattle.std.proofs.lemmas.List.{append-nil, drop_all}
 use Rattle.path_grammar.specs.Tree.{OneSegment, Segments, no_segments, segment, segments_of, Selectors, selector, no_selectors}
 use Rattle.json_tape.specs.Nodes.{Node}
 use Rattle.json_tape.specs.Document.{Doc, node_at}
@@ -16,8 +16,7 @@ use Rattle.node_lists.specs.Nodelists.{nodes_of}
 use Rattle.node_lists.specs.Paying.{Holds, Inside, Refuses}
 use Rattle.node_lists.specs.declared.fault.SelectFault.{SelectFault}
 use Rattle.node_lists.specs.declared.fault.SelectFault.TheVariants.{Memory}
-use Rattle.node_lists.proofs.Adding.{append_nil}
-use Rattle.node_lists.proofs.Following.{nothing_from_nothing, nothing_for_nothing, one_unit, refuses_from}
+use Rattle.query_machine.proofs.Charges.{nothing_from_nothing, nothing_for_nothing, one_unit, refuses_from}
 use Rattle.node_lists.specs.Links.{link_selector, link_view}
 use Rattle.path_meaning.specs.declared.links.Link.{Link}
 use Rattle.query_plan.specs.Slots.{AreClaimed}
@@ -81,7 +80,7 @@ module _ (d : Doc) (ss : List OneSegment) where
   -- ---- The last cursor gives first
 
   last_first : (cs : List Cursor) (c : Cursor) → remaining d ss (cs ++ c ∷ []) ≡ given d ss c ++ remaining d ss cs
-  last_first [] c = sym (append_nil (given d ss c))
+  last_first [] c = sym (append-nil (given d ss c))
   last_first (x ∷ cs) c = ap (λ ns. ns ++ given d ss x) (last_first cs c) ∙ append_assoc (given d ss c) (remaining d ss cs) (given d ss x)
 
   last_due : (cs : List Cursor) (c : Cursor) → remaining_due d ss (cs ++ c ∷ []) ≡ owed d ss c + remaining_due d ss cs
@@ -105,8 +104,8 @@ module _ (d : Doc) (ss : List OneSegment) where
       let root = node_at d 0 in
       let s = segment_at ss (k + 1) in
       let more = ap segments_of (behind_is ss (k + 1) lt) in
-      let gives : evaluated root (after d ss k) (n ∷ []) ≡ given d ss c = rw (e, nodes, more) (ap (λ xs. evaluated root (after d ss (k + 1)) xs) (append_nil (nodes_from root s n))) in
-      let costs : charge_from root (after d ss k) (n ∷ []) ≡ owed d ss c = (let x = ap (λ xs. charge_from root (after d ss (k + 1)) xs) (append_nil (nodes_from root s n)) in rw (e, nodes, more) (omega (arith, x, charged))) in
+      let gives : evaluated root (after d ss k) (n ∷ []) ≡ given d ss c = rw (e, nodes, more) (ap (λ xs. evaluated root (after d ss (k + 1)) xs) (append-nil (nodes_from root s n))) in
+      let costs : charge_from root (after d ss k) (n ∷ []) ≡ owed d ss c = (let x = ap (λ xs. charge_from root (after d ss (k + 1)) xs) (append-nil (nodes_from root s n)) in rw (e, nodes, more) (omega (arith, x, charged))) in
       let l = last_due t.cursors.items c in
       record {
         same = rw (p.pushed, p.out) (ap (λ xs. nodes_of d t.out.items ++ xs) (last_first t.cursors.items c ∙ ap (λ xs. xs ++ remaining d ss t.cursors.items) (sym gives)));
@@ -301,7 +300,7 @@ module _ (d : Doc) (ss : List OneSegment) where
     after_link = ap segments_of (behind_is ss (k + 1) lt) ∙ ap (λ (s : OneSegment). segment s.descend s.selectors (after d ss (k + 1))) is
 
     one_found : ((selected_by (node_at d 0) (link_selector l) n ++ []) ++ []) ++ [] ≡ found
-    one_found = append_nil ((selected_by (node_at d 0) (link_selector l) n ++ []) ++ []) ∙ append_nil (selected_by (node_at d 0) (link_selector l) n ++ []) ∙ append_nil (selected_by (node_at d 0) (link_selector l) n) ∙ sym e
+    one_found = append-nil ((selected_by (node_at d 0) (link_selector l) n ++ []) ++ []) ∙ append-nil (selected_by (node_at d 0) (link_selector l) n ++ []) ∙ append-nil (selected_by (node_at d 0) (link_selector l) n) ∙ sym e
 
     pub link_followed : evaluated (node_at d 0) (after d ss (k + 1)) found ≡ evaluated (node_at d 0) (after d ss k) (n ∷ [])
     link_followed = sym (ap (λ (q : Segments). evaluated (node_at d 0) q (n ∷ [])) after_link ∙ ap (λ ns. evaluated (node_at d 0) (after d ss (k + 1)) ns) one_found)
@@ -322,7 +321,7 @@ module _ (d : Doc) (ss : List OneSegment) where
         let none : after d ss to ≡ no_segments = ap segments_of (drop_all (to + 1) ss h) in
         let same = rw none at f.same in
         let paid = rw none at f.paid in
-        record { same = append_nil (nodes_of d new) ∙ o.same ∙ ap (λ ns. nodes_of d out ++ ns) same; paid = omega (arith, paid); inside = tt; sound = o.inside }
+        record { same = append-nil (nodes_of d new) ∙ o.same ∙ ap (λ ns. nodes_of d out ++ ns) same; paid = omega (arith, paid); inside = tt; sound = o.inside }
 
     -- a cursor goes on from it
     pub put_rest : to + 1 < length ss → Inside d out → Puts d ss k (n ∷ []) (Some (to, found)) out out old mid
@@ -334,7 +333,7 @@ module _ (d : Doc) (ss : List OneSegment) where
       last_gives =
           let more = ap segments_of (behind_is ss (to + 1) (omega (arith, end))) in
           let none : after d ss (to + 1) ≡ no_segments = ap segments_of (drop_all (to + 1 + 1) ss (omega (arith, end))) in
-          rw (more, none) (append_nil (nodes_from (node_at d 0) (segment_at ss (to + 1)) (node_at d found.0)))
+          rw (more, none) (append-nil (nodes_from (node_at d 0) (segment_at ss (to + 1)) (node_at d found.0)))
 
       last_costs : charge_from (node_at d 0) (after d ss to) (node_at d found.0 ∷ []) ≡ charge_at (node_at d 0) (segment_at ss (to + 1)) (node_at d found.0)
       last_costs =
@@ -347,7 +346,7 @@ module _ (d : Doc) (ss : List OneSegment) where
           let costs = last_costs in
           let paid = f.paid in
           let spent = t.1 in
-          record { same = append_nil (nodes_of d new) ∙ t.0.same ∙ ap (λ ns. nodes_of d out ++ ns) (sym last_gives ∙ f.same); paid = omega (arith, costs, paid, spent); inside = tt; sound = t.0.inside }
+          record { same = append-nil (nodes_of d new) ∙ t.0.same ∙ ap (λ ns. nodes_of d out ++ ns) (sym last_gives ∙ f.same); paid = omega (arith, costs, paid, spent); inside = tt; sound = t.0.inside }
 
       pub put_refused : (e : SelectFault) → Refuses (charge_at (node_at d 0) (segment_at ss (to + 1)) (node_at d found.0)) mid e → Refuses (charge_from (node_at d 0) (after d ss k) (n ∷ [])) old e
       put_refused e r =

@@ -2,7 +2,7 @@
 use Rattle.std.proofs.Common.{◌≡◌, ℕ, zero, suc, ◌+◌, ◌-◌, ◌<◌, ◌≤◌, Bool, true, false, List, [], ◌∷◌, ◌++◌, map, length, drop, get_or, Option, Some, None, refl, sym, ap, ◌∙◌, arith, append_assoc, Bor, if◌then◌else◌}
 use Rattle.std.specs.Prelude.{flat_map, IfSome, MatchOption}
 use Rattle.std.specs.Prelude.{filter as keep}
-use Rattle.std.proofs.lemmas.List.{drop_more, drop_all, length-append}
+use Rattle.std.proofs.lemmas.List.{append-nil, drop_more, drop_all, length-append}
 use Rattle.path_grammar.specs.Tree.{OneSegment, Selectors, Selector, name, wild, index, filter, slice, Expr, no_selectors, selector, selectors_of}
 use Rattle.json_tape.specs.Nodes.{Node, children, elements}
 use Rattle.json_tape.specs.Document.{Doc, node_at, seen, counting, following, single, later, count, IsIn}
@@ -13,18 +13,16 @@ use Rattle.node_lists.specs.Extra.{nodes_from, charge_at}
 use Rattle.node_lists.specs.Nodelists.{nodes_between, nodes_of}
 use Rattle.node_lists.specs.Paying.{Refuses}
 use Rattle.node_lists.specs.declared.fault.SelectFault.{SelectFault}
-use Rattle.node_lists.proofs.Following.{refuses_from}
 use Rattle.query_plan.specs.Slots.{AreClaimed}
 use Rattle.query_plan.specs.Planned.{Claims, trees, all_claims, condition_view, selection_view, stage_view}
 use Rattle.query_plan.specs.declared.plan.Condition.{Condition}
 use Rattle.query_plan.specs.declared.plan.Selection.{Selection}
 use Rattle.query_plan.specs.declared.plan.Stage.{Stage}
-use Rattle.query_plan.proofs.LoneLinks.{stage_is}
-use Rattle.node_lists.proofs.Adding.{append_nil}
 use Rattle.query_machine.specs.Cursors.{ahead, behind, condition_at, condition_in, due, first_condition, price_of, rest_of, strided, taken, taking, visited, visits_due, Drains, Draws, IsAsked, IsStride}
 use Rattle.query_machine.specs.Stacks.{Emits}
 use Rattle.query_machine.specs.declared.cursor.Cursor.{Cursor}
 use Rattle.query_machine.specs.declared.cursor.Stride.{Stride}
+use Rattle.query_machine.proofs.Charges.{refuses_from, stage_is}
 use Rattle.query_machine.proofs.Strides.{passed_stride, rest_fits}
 
 pub between_none : (d : Doc) (k e : ℕ) → e ≤ k → nodes_between d k e ≡ []
@@ -343,7 +341,7 @@ module _ (d : Doc) (s : Stage) (c : Cursor) (no : c.child ≡ None) (passed : c.
       let sel = (stage_view s).tree.selectors in
       let ns = elements (node_at d c.visit) in
       begins d s c no passed visits end item lt is _ found left rest_left refl refl refl refl
-      (rw (no, taken_none root (condition_at c.asked sel), passed_stride c.stride ns passed) (append_nil (single d found) ∙ gives))
+      (rw (no, taken_none root (condition_at c.asked sel), passed_stride c.stride ns passed) (append-nil (single d found) ∙ gives))
       (rw (no, taking_none root (condition_at c.asked sel), passed_stride c.stride ns passed) (omega (arith, one))) paid f (rw no tt) fits
 
   -- a slice has places before it
@@ -368,7 +366,7 @@ module _ (d : Doc) (s : Stage) (c : Cursor) (no : c.child ≡ None) (passed : c.
       let ns = elements (node_at d c.visit) in
       let at : condition_at c.passed (stage_view s).tree.selectors ≡ condition_in (selection_view item).tree = ap first_condition (behind_more s c.passed item lt is) in
       begins d s c no passed visits end item lt is _ None left rest_left refl refl refl refl
-      (rw (at, all, passed_stride c.stride ns passed) (append_nil (taken root (condition_in (selection_view item).tree) (children (node_at d c.visit))) ∙ gives))
+      (rw (at, all, passed_stride c.stride ns passed) (append-nil (taken root (condition_in (selection_view item).tree) (children (node_at d c.visit))) ∙ gives))
       (rw (at, all, passed_stride c.stride ns passed) (omega (arith, costs))) paid tt i fits
 
 pub ruleset ending = (nothing_ahead, nothing_due)

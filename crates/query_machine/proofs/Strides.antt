@@ -1,6 +1,5 @@
 -- The places of a slice, taken one after the other from either end.
-use Rattle.std.proofs.Common.{◌≡◌, ℕ, zero, suc, ◌+◌, ◌-◌, ◌*◌, ◌/◌, ◌%◌, ◌<◌, ◌≤◌, ◌^◌, to_z, w64, pos, Bool, true, false, List, [], ◌∷◌, ◌++◌, length, reverse, inl, inr, refl, sym, ap, ◌∙◌, arith, ℤ, ◌<ℤ◌, if◌then◌else◌}
-use Rattle.std.specs.Prelude.{nat_lt}
+use Rattle.std.proofs.Common.{◌≡◌, ℕ, zero, suc, ◌+◌, ◌-◌, ◌*◌, ◌/◌, ◌%◌, ◌<◌, ◌≤◌, ◌^◌, to_z, w64, pos, Bool, true, false, List, [], ◌∷◌, ◌++◌, reverse, inl, inr, refl, sym, ap, ◌∙◌, arith, ℤ, ◌<ℤ◌, if◌then◌else◌}
 use Rattle.std.proofs.Math.Nat.{mod-eq_of_lt, mul-mod_right, add-mul-mod_self_left, add-mod_right, div-add-mod}
 use Rattle.std.proofs.Common.{mod-lt}
 use Rattle.std.proofs.lemmas.List.{reverse-append}
@@ -11,8 +10,7 @@ use Rattle.json_tape.specs.Nodes.{Node}
 use Rattle.path_grammar.specs.declared.ast.IntLit.TheVariants.{Within}
 use Rattle.tape_values.specs.Selection.{nth, at_index, picked, in_order}
 use Rattle.tape_values.specs.Places.{is_place}
-use Rattle.node_lists.proofs.Picking.{picked_first, picked_none}
-use Rattle.tape_values.proofs.Progressions.{picked_same}
+use Rattle.node_lists.specs.Laws.{StepsOn}
 use Rattle.query_machine.specs.Cursors.{place_of, rest_of, strided, turned, IsAligned, IsStride}
 use Rattle.query_machine.specs.declared.cursor.Stride.{Stride}
 
@@ -29,15 +27,15 @@ none_behind first end step i [] h = refl
 none_behind first end step i (n ∷ ns) h = rw (behind_last first end step i h, none_behind first end step (suc i) ns (omega (arith, h))) refl
 
 -- the element at the first place, and those at the places behind it
-up_from : (k first end step i : ℕ) (ns : List Node) → i + k ≡ first → first < end → 0 < step → nth k ns ++ picked (is_place (first + step) end step) i ns ≡ picked (is_place first end step) i ns
-up_from k first end step i [] e below some = refl
-up_from zero first end step i (n ∷ ns) e below some =
+up_from : (law : StepsOn) (k first end step i : ℕ) (ns : List Node) → i + k ≡ first → first < end → 0 < step → nth k ns ++ picked (is_place (first + step) end step) i ns ≡ picked (is_place first end step) i ns
+up_from law k first end step i [] e below some = refl
+up_from law zero first end step i (n ∷ ns) e below some =
     let at : i ≡ first = omega (arith, e) in
     let one : i + 1 ≡ suc i = omega arith in
-    let front = rw one at (picked_first first end step i n ns at below) in
+    let front = rw one at (law.first first end step i n ns at below) in
     rw (before_first (first + step) end step i (omega (arith, at, some))) (sym front)
-up_from (suc k) first end step i (n ∷ ns) e below some =
-    rw (before_first (first + step) end step i (omega (arith, e)), before_first first end step i (omega (arith, e))) (up_from k first end step (suc i) ns (omega (arith, e)) below some)
+up_from law (suc k) first end step i (n ∷ ns) e below some =
+    rw (before_first (first + step) end step i (omega (arith, e)), before_first first end step i (omega (arith, e))) (up_from law k first end step (suc i) ns (omega (arith, e)) below some)
 
 -- ---- From the last place back
 
@@ -117,38 +115,27 @@ same_aligned first end step i some h =
 
 -- ---- By the kind of the step
 
-nth_none : (w : ℕ) (ns : List Node) → length ns ≤ w → nth w ns ≡ []
-nth_none w [] h = refl
-nth_none zero (n ∷ ns) h = absurd (omega (arith, h))
-nth_none (suc w) (n ∷ ns) h = nth_none w ns (omega (arith, h))
-
-at_place : (w : ℕ) (ns : List Node) → at_index (Within (pos w)) ns ≡ nth w ns
-at_place w ns = elim (cases_lt w (length ns)) [
-  | inl below ↦ let yes : nat_lt w (length ns) ≡ true = grind (arith, nat_tests) in rw yes refl
-  | inr above ↦ let no : nat_lt w (length ns) ≡ false = grind (arith, nat_tests) in rw (no, nth_none w ns above) refl
-]
-
 -- a place below 2^32 read as a signed number is the place
-at_signed : (w : ℕ) (ns : List Node) → w < 2 ^ 32 → at_index (Within (to_z w64 w)) ns ≡ nth w ns
-at_signed w ns h = ap (λ i. at_index (Within i) ns) (to_z_pos w64 w (omega (arith, h))) ∙ at_place w ns
+at_signed : (law : StepsOn) (w : ℕ) (ns : List Node) → w < 2 ^ 32 → at_index (Within (to_z w64 w)) ns ≡ nth w ns
+at_signed law w ns h = ap (λ i. at_index (Within i) ns) (to_z_pos w64 w (omega (arith, h))) ∙ law.at w ns
 
 nth_reversed : (w : ℕ) (ns : List Node) → reverse (nth w ns) ≡ nth w ns
 nth_reversed w [] = refl
 nth_reversed zero (n ∷ ns) = refl
 nth_reversed (suc w) (n ∷ ns) = nth_reversed w ns
 
-more_by : (b : Bool) (first end step : ℕ) (xs ns : List Node) → end ≤ 2 ^ 32 → 0 < step → first < end → IsAligned b first end step → xs ≡ at_index (Within (to_z w64 (if b then end - 1 else first))) ns
+more_by : (law : StepsOn) (b : Bool) (first end step : ℕ) (xs ns : List Node) → end ≤ 2 ^ 32 → 0 < step → first < end → IsAligned b first end step → xs ≡ at_index (Within (to_z w64 (if b then end - 1 else first))) ns
     → xs ++ turned b (picked (is_place (if b then first else first + step) (if b then end - step else end) step) 0 ns) ≡ turned b (picked (is_place first end step) 0 ns)
-more_by false first end step xs ns fits some below a e = rw (e, at_signed first ns (omega (arith, fits, below))) (up_from first first end step 0 ns (omega arith) below some)
-more_by true first end step xs ns fits some below a e =
+more_by law false first end step xs ns fits some below a e = rw (e, at_signed law first ns (omega (arith, fits, below))) (up_from law first first end step 0 ns (omega arith) below some)
+more_by law true first end step xs ns fits some below a e =
     let all = back_from (end - 1) first end step 0 ns (omega arith) below some (a below) in
     let parts = reverse-append (picked (is_place first (end - step) step) 0 ns) (nth (end - 1) ns) in
-    rw (e, at_signed (end - 1) ns (omega (arith, fits, below)))
+    rw (e, at_signed law (end - 1) ns (omega (arith, fits, below)))
     (ap (λ ms. ms ++ reverse (picked (is_place first (end - step) step) 0 ns)) (sym (nth_reversed (end - 1) ns)) ∙ sym parts ∙ ap (λ ms. reverse ms) all)
 
 -- the element at the next place, and those behind it
-pub strided_more : (w : Stride) (xs ns : List Node) → IsStride w → w.first < w.end → xs ≡ at_index (Within (to_z w64 (place_of w))) ns → xs ++ strided (rest_of w) ns ≡ strided w ns
-strided_more w xs ns fits below e = more_by w.is_back w.first w.end w.step xs ns fits.end fits.some below fits.aligned e
+pub strided_more : (law : StepsOn) (w : Stride) (xs ns : List Node) → IsStride w → w.first < w.end → xs ≡ at_index (Within (to_z w64 (place_of w))) ns → xs ++ strided (rest_of w) ns ≡ strided w ns
+strided_more law w xs ns fits below e = more_by law w.is_back w.first w.end w.step xs ns fits.end fits.some below fits.aligned e
 
 rest_aligned : (b : Bool) (first end step : ℕ) → first < end → IsAligned b first end step → IsAligned b (if b then first else first + step) (if b then end - step else end) step
 rest_aligned false first end step below a = tt
@@ -161,8 +148,14 @@ rest_end true end step h = omega (arith, h)
 pub rest_fits : (w : Stride) → IsStride w → w.first < w.end → IsStride (rest_of w)
 rest_fits w fits below = record { end = rest_end w.is_back w.end w.step fits.end; some = fits.some; step = fits.step; aligned = rest_aligned w.is_back w.first w.end w.step below fits.aligned }
 
+none_picked : (first end step i : ℕ) (ns : List Node) → end ≤ first → picked (is_place first end step) i ns ≡ []
+none_picked first end step i [] h = refl
+none_picked first end step i (n ∷ ns) h =
+    let no : is_place first end step i ≡ false = grind (arith, nat_tests) in
+    rw (no, none_picked first end step (suc i) ns h) refl
+
 pub passed_stride : (w : Stride) (ns : List Node) → w.end ≤ w.first → strided w ns ≡ []
-passed_stride w ns h = rw (picked_none w.first w.end w.step 0 ns h) (none_turned w.is_back)
+passed_stride w ns h = rw (none_picked w.first w.end w.step 0 ns h) (none_turned w.is_back)
   where
     none_turned : (b : Bool) → turned b [] ≡ []
     none_turned false = refl
@@ -174,7 +167,7 @@ no_order : (step : ℤ) → in_order step [] ≡ []
 no_order step = grind (arith, ints)
 
 pub none_strided : (w : Stride) (first end by : ℕ) (step : ℤ) (ns : List Node) → w.end ≤ w.first → end ≤ first → strided w ns ≡ in_order step (picked (is_place first end by) 0 ns)
-none_strided w first end by step ns h k = rw (passed_stride w ns h, picked_none first end by 0 ns k) (sym (no_order step))
+none_strided w first end by step ns h k = rw (passed_stride w ns h, none_picked first end by 0 ns k) (sym (no_order step))
 
 pub still_strided : (w : Stride) (first end by : ℕ) (step : ℤ) (ns : List Node) → w.end ≤ w.first → step ≡ pos 0 → strided w ns ≡ in_order step (picked (is_place first end by) 0 ns)
 still_strided w first end by step ns h e = rw (e, passed_stride w ns h) refl
@@ -185,7 +178,7 @@ up_strided first end by step ns h = grind (arith, ints)
 pub back_strided : (first end by : ℕ) (step : ℤ) (ns : List Node) → step <ℤ pos 0 → 0 < by → first < end
     → strided (record { first = first; end = end - (end - 1 - first) % by; step = by; is_back = true }) ns ≡ in_order step (picked (is_place first end by) 0 ns)
 back_strided first end by step ns h some below =
-    let same = picked_same (is_place first (end - (end - 1 - first) % by) by) (is_place first end by) 0 ns (λ i. same_aligned first end by i some below) in
+    let same : picked (is_place first (end - (end - 1 - first) % by) by) 0 ns ≡ picked (is_place first end by) 0 ns = λ k. picked (λ i. same_aligned first end by i some below k) 0 ns in
     let turns : in_order step (picked (is_place first end by) 0 ns) ≡ reverse (picked (is_place first end by) 0 ns) = grind (arith, ints) in
     rw (same, turns) refl
 

@@ -29,7 +29,7 @@ abbrev pub IsWithin : Doc → Parts → ℕ → Option Machine → Type 0
 IsWithin d plan units None = Unit {0}
 IsWithin d plan units (Some m) = IsOnWay d plan units (selected_from d plan) m × (left_in m ≤ units)
 
--- the same of a document with this text
+-- none is under way, or this one on a document with this text
 abbrev pub IsWithinText : List ℕ → Parts → ℕ → Option Machine → Type 0
 IsWithinText text plan units None = Unit {0}
 IsWithinText text plan units (Some m) = (d : Doc) × IsDocument d × (d.text ≡ text) × IsOnWay d plan units (selected_from d plan) m × (left_in m ≤ units)

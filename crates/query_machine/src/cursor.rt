@@ -14,7 +14,7 @@ ghost use Rattle.tape_select.specs.Memo.{Keeps};
 ghost use Rattle.query_machine.specs.Cursors.{ahead, condition_at, condition_in, due, place_of, rest_of, strided, Draws, DrawsOr, IsAsked, IsStride};
 
 use json_tape::{Document, NodeId};
-use node_lists::{Meter, SelectFault, step as link_step};
+use node_lists::{Meter, SelectFault, places_step_on, step as link_step};
 use path_grammar::IntLit;
 use query_plan::{Condition, Parts, Selection, Stage};
 use tape_select::{State, does_hold};
@@ -292,6 +292,7 @@ fn take_element(
     requires stride { IsStride c.old.stride }
     ensures { DrawsOr doc.now (stage_view stage.now).tree result c.old c.new meter.old.left meter.new.left }
 {
+    places_step_on();
     let _ = stage;
     let place = next_place(&c.stride);
     let found = element(doc, NodeId(c.visit), IntLit::Within(place as i64));

@@ -19,10 +19,10 @@ use crate::runs::run;
 use crate::stepping::Track;
 use json_tape::{Document, NodeId};
 use node_lists::{SelectFault, followed, push};
-use query_plan::{Nested, Parts, Stage};
+use query_plan::{Nested, Parts, Stage, finds_slots, follows_links};
 use std::alloc::Global;
 use std::mem;
-use tape_select::{Awaited, State, beginning, first_awaited, found_in, keep};
+use tape_select::{Awaited, State, beginning, first_awaited, found_in, keep_found};
 
 /// Whose query it is: that with this slot, from this node. It began with so many units. (Those of the lowest are not looked at.)
 #[derive(Clone, Copy)]
@@ -92,6 +92,7 @@ fn stages_of<'p>(plan: &'p Parts, machine: &Machine) -> Option<&'p [Stage]>
     ensures same { IfSome result (λ stages. segments_in stages.now ≡ top_segments plan.now machine.now.below.items machine.now.origin) }
     ensures claimed { IfSome result (λ stages. AreClaimed (claims_of plan.now.stages.items) (claims_of stages.now)) }
 {
+    finds_slots();
     if machine.below.is_empty() {
         return Some(&plan.stages);
     }
@@ -174,6 +175,7 @@ fn begin_above(
     ensures moved { MatchResult result (λ move. Moved doc.now plan.now move units (rest_of doc.now plan.now machine.old) machine.new) (λ e. Refuses (charge_from (node_at doc.now 0) (query_of plan.now.stages.items) (node_at doc.now 0 ∷ [])) units e) }
     ensures little { IfOk result (λ _. IsOneStep doc.now plan.now (left_in machine.old) (left_in machine.new)) }
 {
+    follows_links();
     let Some(slot) = query.slot else {
         return Ok(Move::Lost);
     };
@@ -199,7 +201,7 @@ fn begin_above(
         ),
         None => {
             let found = found_in(doc, &[], own - machine.state.meter.left);
-            keep(doc, plan, &mut machine.state.slots, slot, from, found);
+            keep_found(doc, plan, &mut machine.state.slots, slot, from, found);
             machine.state.meter.left = left;
             Ok(Move::GoesOn)
         }
@@ -219,7 +221,7 @@ fn end_above(doc: &Document, plan: &Parts, units: u64, machine: &mut Machine) ->
     };
     let charge = machine.origin.units - machine.state.meter.left;
     let found = found_in(doc, &machine.track.out, charge);
-    keep(
+    keep_found(
         doc,
         plan,
         &mut machine.state.slots,

@@ -14,7 +14,7 @@ ghost use Rattle.query_machine.specs.Stacks.{after, segments_in, Follows, Puts};
 
 use crate::cursor::condition_of;
 use json_tape::{Document, NodeId};
-use node_lists::{Meter, SelectFault, below_total, child_total, push, step};
+use node_lists::{Meter, SelectFault, below_total, child_total, push, step, visit_total};
 use query_plan::{Parts, Selection, Stage, lone_link};
 use tape_select::{State, from_node};
 
@@ -75,7 +75,7 @@ fn most_units(doc: &Document, stage: &Stage, n: NodeId) -> Option<u64>
         return None;
     }
     let nodes = if stage.descend {
-        u64::from(doc.after(n) - n.0) + u64::from(below_total(doc, n))
+        u64::from(visit_total(doc, n)) + u64::from(below_total(doc, n))
     } else {
         1 + u64::from(child_total(doc, n))
     };

@@ -14,7 +14,7 @@ use crate::placing::{put, take_whole};
 use crate::stepping::{Track, place, put_back};
 use crate::visits::draw_visit;
 use json_tape::{Document, NodeId};
-use node_lists::{Meter, SelectFault, reserve};
+use node_lists::{Meter, SelectFault, numbers_split_nodes, reserve};
 use query_plan::{Condition, Parts, Stage};
 use tape_select::State;
 
@@ -81,6 +81,7 @@ fn go_out(
     ensures little { IfOk result (λ _. least ≤ state.new.meter.left + 1) }
     ensures kept { Keeps doc.now (claims_of plan.now.stages.items) state.new }
 {
+    numbers_split_nodes();
     if !is_last {
         return Ok(false);
     }

@@ -9,7 +9,7 @@ ghost use Rattle.query_machine.specs.Cursors.{GivesNode, IsPassed, IsStepOf, IsS
 
 use crate::cursor::{Cursor, draw};
 use json_tape::{Document, NodeId};
-use node_lists::{Link, Meter, SelectFault, step};
+use node_lists::{Link, Meter, SelectFault, selectors_pay_in_parts, step};
 use query_plan::{Stage, only_link};
 
 // What a segment may select from one node: none where that is nothing, and the node that a lone name or index selects.
@@ -20,6 +20,7 @@ fn found_at(doc: &Document, stage: &Stage, link: Option<&Link>, n: NodeId) -> Op
     ensures found { MatchOption result (IsPassed doc.now stage.now n.0) (λ found. IfSome found (λ m. GivesNode doc.now stage.now n.0 m)) }
     ensures inside { IfSome result (λ found. IsIn doc.now found) }
 {
+    selectors_pay_in_parts();
     let _ = stage;
     if doc.first_child(n).is_none() {
         return None;

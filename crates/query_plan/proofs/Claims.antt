@@ -4,7 +4,7 @@ use Rattle.std.specs.Prelude.{IsTrue}
 use Rattle.std.proofs.lemmas.Bool.Decides.{nat_tests}
 use Rattle.std.proofs.lemmas.List.{drop_more}
 use Rattle.path_grammar.specs.Tree.{Expr}
-use Rattle.decisions.specs.Told.{is_told_on}
+use Rattle.decisions.specs.Decided.{is_told_on}
 use Rattle.decisions.specs.declared.scale.Scale.{Scale}
 use Rattle.query_plan.specs.Planned.{Claimed, Claims, no_claims, claim, a_condition, told, both, With, look, or_else, then_numbered, numbered, all_claims, claims_of, condition_view, selection_view, stage_view}
 use Rattle.query_plan.specs.Slots.{AreClaimed}

@@ -43,7 +43,7 @@ module _ (root : Node) (ss : List Stage) where
   through_links [] ns = refl
   through_links (l ∷ ls) ns = through_links ls (from_starts false (λ m. selected root (selector (link_selector l) no_selectors) m) ns)
 
-  pub links_charged : (ls : List Link) (ns : List Node) → charge_from root (path_of ls ss) ns ≡ charge_from root (links_view ls) ns + charge_from root (query_of ss) (evaluated root (links_view ls) ns)
+  links_charged : (ls : List Link) (ns : List Node) → charge_from root (path_of ls ss) ns ≡ charge_from root (links_view ls) ns + charge_from root (query_of ss) (evaluated root (links_view ls) ns)
   links_charged [] ns = omega arith
   links_charged (l ∷ ls) ns = let h = links_charged ls (from_starts false (λ m. selected root (selector (link_selector l) no_selectors) m) ns) in omega (arith, h)
 

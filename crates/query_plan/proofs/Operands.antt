@@ -1,12 +1,10 @@
--- Operands and arguments: what they are charged, and which value they have.
+-- What operands and arguments are charged.
 use Rattle.std.proofs.Common.{◌≡◌, ℕ, ◌+◌, ◌<◌, List, map, length, drop, get_or, refl, ap, arith}
 use Rattle.std.specs.Prelude.{codes}
 use Rattle.std.proofs.lemmas.List.{drop_more}
 use Rattle.path_grammar.specs.Tree as tree
 use Rattle.path_grammar.specs.Tree.{exprs_of}
 use Rattle.json_text.specs.Nodes.{Node}
-use Rattle.path_meaning.specs.Functions.{value_argued, length_value}
-use Rattle.path_meaning.specs.Evaluation.{result, argued}
 use Rattle.path_meaning.specs.Charge.{charge_expr, charge_exprs, charge_side, charge_nested}
 use Rattle.query_plan.specs.Planned.{trees, as_argument, calling, condition_view}
 use Rattle.query_plan.specs.declared.plan.Condition.{Condition}
@@ -16,17 +14,7 @@ pub operand_charges : (root n : Node) (es : List Condition) (i : ℕ) (d : Condi
 operand_charges root n es i d lt = ap (λ (xs : List Condition). charge_exprs root (exprs_of (trees (map condition_view xs))) n) (drop_more es i d lt)
 
 module _ (root n : Node) where
-  argued_value : (t : tree.Comparable) → value_argued (argued root (as_argument t) n) ≡ result root t n
-  argued_value (tree.lit l) = refl
-  argued_value (tree.single q) = refl
-  argued_value (tree.func c) = refl
-
   pub argued_charge : (t : tree.Comparable) → charge_side root (calling (codes "length") (as_argument t)) n ≡ charge_side root t n
   argued_charge (tree.lit l) = refl
   argued_charge (tree.single q) = let e : charge_nested root q n + 0 ≡ charge_nested root q n = omega arith in e
   argued_charge (tree.func c) = omega arith
-
-  pub length_called : (t : tree.Comparable) → result root (calling (codes "length") (as_argument t)) n ≡ length_value (result root t n)
-  length_called t = ap length_value (argued_value t)
-
-pub ruleset siding = (argued_charge, length_called)

@@ -9,7 +9,7 @@ use Rattle.path_grammar.specs.declared.ast.Argument.TheFolds.{fold_out-SubQuery}
 use Rattle.path_grammar.specs.declared.ast.SubQuery.{SubQuery, out-SubQuery}
 use Rattle.path_grammar.specs.declared.ast.Segment.{Segment}
 use Rattle.decisions.specs.Marks.{are_among}
-use Rattle.decisions.specs.Told.{is_alone, are_told, totals, all_literals, values_on, are_told_on}
+use Rattle.decisions.specs.Decided.{is_alone, are_told, totals, all_literals, values_on, are_told_on}
 use Rattle.decisions.specs.declared.scale.Scale.{Scale}
 
 pub alone : (from_root : Bool) (ss : List Segment) → is_alone (tree.nested from_root (segments_of (map segment_view ss))) ≡ nat_eq (length ss) 0

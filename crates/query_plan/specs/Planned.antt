@@ -4,7 +4,7 @@ use Rattle.path_grammar.specs.Tree as tree
 use Rattle.path_grammar.specs.Tree.{OneSegment, Segments, segments_of, selectors_of, exprs_of}
 use Rattle.decisions.specs.Tree.{expr_of, listed}
 use Rattle.decisions.specs.Views.{constant_view, test_view}
-use Rattle.decisions.specs.Told.{is_told_on}
+use Rattle.decisions.specs.Decided.{is_told_on}
 use Rattle.decisions.specs.declared.scale.Scale.{Scale}
 use Rattle.path_meaning.specs.Links.{link_selector, link_view}
 use Rattle.query_plan.specs.declared.plan.Condition.TheOpen.{Condition-F, Operand-F, Selection-F, Nested-F, Stage-F}

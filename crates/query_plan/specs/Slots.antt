@@ -1,6 +1,6 @@
 -- Each slot is that of one query, or of one condition.
 use Rattle.std.specs.Prelude.{◌≡◌, ℕ, Some, IsTrue}
-use Rattle.decisions.specs.Told.{is_told_on}
+use Rattle.decisions.specs.Decided.{is_told_on}
 use Rattle.query_plan.specs.Planned.{Claims, no_claims, claim, told, both, look, nested_view}
 use Rattle.query_plan.specs.declared.plan.Nested.{Nested, out-Nested}
 

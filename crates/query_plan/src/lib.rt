@@ -7,6 +7,7 @@
 #![tactic(auto)]
 
 mod finding;
+mod laws;
 mod lone;
 mod making;
 mod plan;
@@ -14,6 +15,7 @@ mod short;
 mod told;
 mod units;
 
+pub use laws::{finds_slots, follows_links, means_conditions};
 pub use lone::{is_wild, lone_link, only_link};
 pub use making::parts_of;
 pub use plan::{Condition, Nested, Operand, Parts, Selection, Stage};

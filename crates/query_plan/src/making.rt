@@ -10,7 +10,7 @@ ghost use Rattle.decisions.specs.Tree.{listed};
 ghost use Rattle.condition_reader.specs.Turns.{dealt};
 ghost use Rattle.query_plan.specs.Planned.{trees, joined, all_claims, query_of, claims_of, is_rooted, own_claim, as_argument, calling, condition_view, operand_view, selection_view, nested_view, stage_view, numbered};
 ghost use Rattle.decisions.specs.Views.{constant_view};
-ghost use Rattle.decisions.specs.Told.{is_told_on};
+ghost use Rattle.decisions.specs.Decided.{is_told_on};
 ghost use Rattle.path_meaning.specs.Links.{link_view};
 ghost use Rattle.query_plan.specs.Making.{is_valid_nodes};
 
@@ -220,7 +220,7 @@ fn condition(alloc: Global, expr: &Expr, next: &mut u32) -> Result<Condition, Al
     }
 }
 
-// The same where it is not decided beforehand.
+// A condition that is not decided beforehand, by its kind.
 #[cycle(making)]
 fn condition_by_kind(alloc: Global, expr: &Expr, next: &mut u32) -> Result<Condition, AllocError>
     requires valid { IsTrue (is_valid_expr (expr_view expr.now)) }
@@ -304,7 +304,7 @@ fn parts(
 {
     let mut made = Vec::new(alloc);
     for number in 0..count {
-        let one = part(alloc, is_any, operands, numbers, number, next)?;
+        let one = group_part(alloc, is_any, operands, numbers, number, next)?;
         made.push(one)?;
     }
     Ok(made)
@@ -312,7 +312,7 @@ fn parts(
 
 // The operands of a group, decided together if they can be, or with their truths kept.
 #[cycle(making)]
-fn part(
+fn group_part(
     alloc: Global,
     is_any: bool,
     operands: &[Expr],
@@ -360,7 +360,7 @@ fn with_slot(
     }
 }
 
-// The same where they are not decided.
+// A part of a group whose operands are not decided, by its kind.
 #[cycle(making)]
 fn part_by_kind(
     alloc: Global,

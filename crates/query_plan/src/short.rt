@@ -183,7 +183,7 @@ fn current(alloc: Global) -> Comparable {
     })
 }
 
-// The same of the operands of a group, with `||` between them, or with `&&`.
+// The decision of a group's operands on one side, with `||` between them, or with `&&`.
 fn group_on(
     alloc: Global,
     side: &Comparable,

@@ -7,7 +7,7 @@ ghost use Rattle.path_grammar.specs.View.{literal_view, call_view, argument_view
 ghost use Rattle.path_types.specs.Validity.{is_valid_comparable, is_valid_expr, are_valid_exprs};
 ghost use Rattle.condition_reader.specs.Turns.{dealt};
 ghost use Rattle.decisions.specs.Views.{constant_view as known_view};
-ghost use Rattle.decisions.specs.Told.{is_alone, is_free_call, are_free, is_free_argument, is_free, is_written, is_told_pair, is_told, are_told, whole, totals, literal_lengths, argument_lengths, lengths, call_lengths, side_literals, literals, all_literals, are_told_on};
+ghost use Rattle.decisions.specs.Decided.{is_alone, is_free_call, are_free, is_free_argument, is_free, is_written, is_told_pair, is_told, are_told, whole, totals, literal_lengths, argument_lengths, lengths, call_lengths, side_literals, literals, all_literals, are_told_on};
 
 use crate::making::literal;
 use condition_reader::{Groups, grouped, parts_in};
@@ -238,7 +238,7 @@ fn gather_all(alloc: Global, operands: &[Expr], found: &mut Vec<Constant>) -> Re
     Ok(())
 }
 
-// The same of the operands with this number, and whether they are all told.
+// Gathers the literals of the operands with this number, and tells whether they are all told.
 fn gather_group(
     alloc: Global,
     operands: &[Expr],
@@ -355,7 +355,7 @@ pub fn in_groups(alloc: Global, operands: &[Expr]) -> Result<Option<Groups>, All
     }
 }
 
-// The same where none are on one side.
+// All operands as one group, where none are on one side and enough of them are told.
 fn in_one_group(alloc: Global, operands: &[Expr]) -> Result<Option<Groups>, AllocError>
     ensures each { IfOk result (λ made. IfSome made (λ groups. length groups.numbers.items ≡ length operands.now)) }
     ensures below { IfOk result (λ made. IfSome made (λ groups. All (λ k. k < groups.count) groups.numbers.items)) }

@@ -56,7 +56,7 @@ map_at ms o = option_and_then (λ place. slice_get ms place) o
 read_back : (ms : List Map) (i : ℕ) (m : Map) → i < length ms → slice_get (set ms i m) i ≡ Some m
 read_back ms i m l = slice_get-get_or (set ms i m) i [] (let e = length-set ms i m in omega (arith, e, l)) ∙ ap (λ x. Some x) (get_or-set_same ms i m [] l)
 
-pub read_other : (ms : List Map) (i j : ℕ) (m : Map) → j ≢ i → slice_get (set ms i m) j ≡ slice_get ms j
+read_other : (ms : List Map) (i j : ℕ) (m : Map) → j ≢ i → slice_get (set ms i m) j ≡ slice_get ms j
 read_other ms i j m n = by (slice_get_cases ms j).1
   where
     by : ((x : Map) × (j < length ms) × (slice_get ms j ≡ Some x) × (get_or ms j x ≡ x)) ⊎ ((length ms ≤ j) × (slice_get ms j ≡ None)) → slice_get (set ms i m) j ≡ slice_get ms j

@@ -93,7 +93,7 @@ abbrev pub IsFresh : Stage → Type 0
 IsFresh (stage.Fresh query) = Unit {0}
 IsFresh (stage.UnderWay task) = ⊥
 
--- the same for each text that has this tree
+-- a share answers, or goes on, for each text of a query that has this tree
 abbrev pub AnswersTree : Result (Option ℕ) (Box QueryTask Global) → Segments → (collection : List ℕ) → (number : ℕ) → Map → (before after : List ℕ) → Type 0
 AnswersTree (Ok charge) q collection number m before after = (text : List ℕ) → IsValidQuery text q → Gives m (Query collection text) number before after m × IsCharge charge collection text m
 AnswersTree (Err task) q collection number m before after = (after ≡ before) × IsOnWay q (documents_of collection m) task.value

@@ -1,7 +1,8 @@
-//! That a request has one reply: the function does nothing, and its contract is the law.
+//! What follows from the definitions: each function does nothing, and its contract is the law.
 ghost use Rattle.std.specs.Prelude.{◌≡◌, ℕ, List};
 ghost use Rattle.tenant_map.specs.Maps.{Map};
 ghost use Rattle.request_replies.specs.Answers.{Alone};
+ghost use Rattle.request_replies.specs.Laws.{KeysApart, ServesPlaces};
 ghost use Rattle.request_replies.specs.Tenants.{BodiesAreServedOnce};
 
 use path_grammar::queries_have_one_tree;
@@ -17,3 +18,13 @@ pub fn told_once()
     queries_answer_once();
     queries_have_one_tree();
 }
+
+/// The map that is put under a key is that key's, and no other key's. Each key begins with the empty map.
+pub fn tenants_are_apart()
+    ensures { KeysApart }
+{}
+
+/// What a body asks of the tenant at a place is served from the map there.
+pub fn places_are_served()
+    ensures { ServesPlaces }
+{}

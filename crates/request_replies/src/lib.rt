@@ -9,7 +9,7 @@ mod queries;
 mod replies;
 mod writing;
 
-pub use laws::told_once;
+pub use laws::{places_are_served, tenants_are_apart, told_once};
 pub use placing::{Placed, Refused, place_request};
 pub use replies::{SoFar, answer};
 pub use writing::{NO_MEMORY, SHORT_REPLY, write_small};

@@ -1,21 +1,19 @@
 -- What a condition awaits: its queries in turn.
-use Rattle.std.proofs.Common.{◌≡◌, Bor, ℕ, zero, suc, ◌+◌, ◌*◌, ◌<◌, ◌≤◌, false, List, map, length, drop, get_or, Option, Some, None, is_some, sym, ap, ◌∙◌, arith}
+use Rattle.std.proofs.Common.{◌≡◌, Bor, ℕ, zero, suc, ◌+◌, ◌*◌, ◌<◌, ◌≤◌, Bool, false, List, map, length, drop, get_or, Option, Some, None, is_some, sym, ap, ◌∙◌, arith}
 use Rattle.std.proofs.Math.Nat.{suc-mul}
 use Rattle.path_grammar.specs.Tree as tree
-use Rattle.path_grammar.specs.Tree.{exprs_of}
+use Rattle.path_grammar.specs.Tree.{Expr, exprs_of}
 use Rattle.json_tape.specs.Nodes.{Node}
 use Rattle.json_tape.specs.Document.{Doc}
-use Rattle.decisions.specs.Tree.{Tested, expr_of, uses}
+use Rattle.decisions.specs.Tree.{Tested, expr_of, listed, uses}
 use Rattle.node_lists.specs.Charge.{charge_expr, charge_exprs, charge_side, charge_nested}
-use Rattle.query_plan.specs.Planned.{Claims, trees, all_claims, calling, condition_view}
+use Rattle.query_plan.specs.Planned.{Claims, trees, all_claims, calling, condition_view, joined}
 use Rattle.query_plan.specs.Slots.{AreClaimed}
 use Rattle.query_plan.specs.declared.plan.Condition.{Condition}
 use Rattle.query_plan.specs.declared.plan.Nested.{Nested}
 use Rattle.tape_select.specs.Awaiting.{AwaitsSome}
-use Rattle.query_plan.proofs.Claims.{operand_claims}
-use Rattle.query_plan.proofs.Deciding.{charge_decided}
-use Rattle.query_plan.proofs.Joining.{charge_listed}
-use Rattle.query_plan.proofs.Operands.{argued_charge, operand_charges}
+use Rattle.query_plan.specs.Laws.{MeansConditions}
+use Rattle.tape_select.proofs.Parts.{operand_claims, operand_charges, argued_charge}
 
 module _ (d : Doc) (table : Claims) (n : Node) where
   -- behind what is paid already
@@ -29,10 +27,10 @@ module _ (d : Doc) (table : Claims) (n : Node) where
   awaits_none (Some x) q a e w = absurd cc
 
 -- a side that is written is a part of the charge
-pub side_within : (root n : Node) (side : tree.Comparable) (t : Tested) (times : ℕ) → times ≡ uses t → 0 < times → charge_side root side n ≤ charge_expr root (expr_of side t) n
-side_within root n side t zero e l = absurd (omega arith)
-side_within root n side t (suc k) e l =
-    let c = charge_decided root n side t in
+pub side_within : (means : MeansConditions) (root n : Node) (side : tree.Comparable) (t : Tested) (times : ℕ) → times ≡ uses t → 0 < times → charge_side root side n ≤ charge_expr root (expr_of side t) n
+side_within means root n side t zero e l = absurd (omega arith)
+side_within means root n side t (suc k) e l =
+    let c = means.paid_decided root n side t in
     let m : suc k * charge_side root side n ≡ k * charge_side root side n + charge_side root side n = suc-mul k (charge_side root side n) in
     rw (c, ← e) (omega (arith, m))
 
@@ -53,6 +51,9 @@ operand_charged root n es i item lt e =
 
 pub ruleset operands = (operand_claims)
 
-pub ruleset parts = (charge_listed)
+pub charge_joined : (means : MeansConditions) (root n : Node) (is_any : Bool) (places : List ℕ) (es : List Expr) → charge_expr root (listed is_any (joined is_any places es)) n ≡ charge_exprs root (exprs_of es) n
+charge_joined means root n is_any places es = means.paid_joined root n is_any places es
+
+pub ruleset parts = (charge_joined)
 
 pub ruleset arguments = (argued_charge, counted)

@@ -1,19 +1,16 @@
 -- Walks of the evaluation: the part at the index first, and then the rest.
-use Rattle.std.proofs.Common.{◌≡◌, ℕ, zero, suc, ◌+◌, ◌≤◌, ◌-◌, ◌*◌, ◌<◌, Bool, true, false, ◌&&◌, ◌||◌, List, [], ◌∷◌, ◌++◌, map, length, drop, get_or, reverse, Option, Some, None, Result, Ok, Err, ℤ, pos, nat_eq, refl, sym, ap, ◌∙◌, arith, append_assoc, cond}
-use Rattle.std.specs.Prelude.{flat_map, int_lt}
+use Rattle.std.proofs.Common.{◌≡◌, ℕ, zero, suc, ◌+◌, ◌≤◌, ◌-◌, ◌*◌, ◌<◌, Bool, true, false, ◌&&◌, ◌||◌, List, [], ◌∷◌, ◌++◌, map, length, drop, get_or, Result, Ok, Err, nat_eq, refl, sym, ap, ◌∙◌, subst, arith, append_assoc, length-append}
+use Rattle.std.specs.Prelude.{MatchResult, flat_map}
 use Rattle.std.specs.Prelude.{filter as keep, not as opposite}
 use Rattle.std.proofs.lemmas.Bool.Decides.{nat_tests}
-use Rattle.std.proofs.lemmas.List.{drop_more}
+use Rattle.std.proofs.lemmas.List.{append-nil, drop_more, length-map}
+use Rattle.std.proofs.lemmas.List.Elements.{All-head, All-rest}
 use Rattle.std.proofs.Math.Nat.{suc-mul}
 use Rattle.path_grammar.specs.Tree as tree
 use Rattle.path_grammar.specs.Tree.{OneSegment, Selectors, Selector, exprs_of, selectors_of}
-use Rattle.path_grammar.specs.declared.ast.IntLit.{IntLit}
-use Rattle.path_grammar.specs.declared.ast.IntLit.TheVariants.{Within, Beyond}
-use Rattle.json_tape.specs.Tree.{Tree, Leaf, Arr, Obj}
-use Rattle.json_tape.specs.Nodes.{Node, Step, children, children_of, elements, elements_of, visit}
-use Rattle.json_tape.specs.Document.{Doc, count}
+use Rattle.json_tape.specs.Nodes.{Node, children, visit}
+use Rattle.json_tape.specs.Document.{Doc, count, counting, node_at, seen}
 use Rattle.json_text.specs.declared.tape.NodeId.{NodeId}
-use Rattle.tape_values.specs.Selection.{at_index, nth_if, position_in, step_of, in_order, sliced}
 use Rattle.node_lists.specs.Evaluation.{evaluated, selected, selected_by, holds, some_hold, all_hold, is_empty}
 use Rattle.node_lists.specs.Nodelists.{nodes_of}
 use Rattle.node_lists.specs.Charge.{total_of, charge_from, charge_in, charge_by}
@@ -26,18 +23,34 @@ use Rattle.query_plan.specs.declared.plan.Selection.{Selection}
 use Rattle.query_plan.specs.declared.plan.Stage.{Stage}
 use Rattle.path_meaning.specs.declared.links.Link.{Link}
 use Rattle.path_meaning.specs.declared.links.Link.TheVariants.{Key, Place}
-use Rattle.node_lists.proofs.Adding.{append_nil, add_more, has_none, flat_more, sum_more}
+use Rattle.node_lists.specs.Laws.{PaysInParts}
 use Rattle.node_lists.specs.Paying.{Adds, Holds, Inside, FindsList}
 use Rattle.std.specs.declared.vec.Vec.{Vec}
 use Rattle.std.specs.declared.alloc.Global.{Global}
 use Rattle.node_lists.specs.declared.fault.SelectFault.{SelectFault}
-use Rattle.node_lists.proofs.Following.{refuses_from, one_unit}
-use Rattle.node_lists.proofs.Visits.{visit_length, visit_more, visit_charged}
-use Rattle.query_plan.proofs.Claims.{operand_claims, selection_claims, stages_claims}
-use Rattle.tape_select.proofs.Paid.{finds_some, finds_all}
-use Rattle.query_plan.proofs.LoneLinks.{stage_is}
-use Rattle.query_plan.proofs.Operands.{argued_charge, length_called, operand_charges}
-use Rattle.node_lists.proofs.Totals.{length_nodes}
+use Rattle.node_lists.specs.declared.fault.SelectFault.TheVariants.{Memory}
+use Rattle.tape_select.proofs.Paid.{refuses_from, finds_some, finds_all}
+use Rattle.tape_select.proofs.Parts.{stage_is, operand_claims, operand_charges, selection_claims, stages_claims, argued_charge, length_called}
+
+-- ---- Nodes of a list
+
+pub has_none : (d : Doc) (ids : List NodeId) → Inside d ids → Holds d ids (nodes_of d ids ++ [])
+has_none d ids a = record { same = sym (append-nil (nodes_of d ids)); inside = a }
+
+pub flat_more : (f : Node → List Node) (d : Doc) (ids : List NodeId) (i : ℕ) (id : NodeId) → i < length ids
+    → flat_map f (nodes_of d (drop i ids)) ≡ f (node_at d (get_or ids i id).0) ++ flat_map f (nodes_of d (drop (i + 1) ids))
+flat_more f d ids i id lt = ap (λ (xs : List NodeId). flat_map f (nodes_of d xs)) (drop_more ids i id lt)
+
+pub sum_more : (f : Node → ℕ) (d : Doc) (ids : List NodeId) (i : ℕ) (id : NodeId) → i < length ids
+    → total_of f (nodes_of d (drop i ids)) ≡ f (node_at d (get_or ids i id).0) + total_of f (nodes_of d (drop (i + 1) ids))
+sum_more f d ids i id lt = ap (λ (xs : List NodeId). total_of f (nodes_of d xs)) (drop_more ids i id lt)
+
+-- the first of an iterator's nodes, and those that it has left
+pub drawn : (d : Doc) (ids : List NodeId) (k : NodeId) (rest : List NodeId) → ids ≡ k ∷ rest → nodes_of d ids ≡ node_at d k.0 ∷ nodes_of d rest
+drawn d ids k rest e = ap (nodes_of d) e
+
+pub drawn_inside : (d : Doc) (ids : List NodeId) (k : NodeId) (rest : List NodeId) → ids ≡ k ∷ rest → Inside d ids → (k.0 < count d) × Inside d rest
+drawn_inside d ids k rest e a = (All-head (λ id. id.0 < count d) k rest (subst (Inside d) e a), All-rest (λ id. id.0 < count d) k rest ids e a)
 
 -- ---- Filters
 
@@ -47,7 +60,7 @@ keep_more p out n ns e = rw e (append_assoc out (n ∷ []) (keep p ns))
 pub keep_not : (p : Node → Bool) (n : Node) (ns : List Node) → p n ≡ false → keep p (n ∷ ns) ≡ keep p ns
 keep_not p n ns e = rw e refl
 
-pub ruleset filtering = (add_more, has_none, keep_more, keep_not)
+pub ruleset filtering = (has_none, keep_more, keep_not)
 
 pub filter_charge : (f : Node → ℕ) (ns : List Node) → length ns + total_of (λ n. 1 + f n) ns ≡ 2 * length ns + total_of f ns
 filter_charge f [] = refl
@@ -105,22 +118,11 @@ pub ruleset selections = (selections_more, extras_more, selection_claims, append
 
 -- ---- The units of selectors, and what they are charged beyond them
 
-module _ (root : Node) where
-  one_each : (s : Selector) (n : Node) → charge_by root s n ≡ 1 + extra_by root s n
-  one_each (tree.name scalars) n = refl
-  one_each tree.wild n = refl
-  one_each (tree.index i) n = refl
-  one_each (tree.slice start stop step) n = refl
-  one_each (tree.filter e) n = omega arith
-
-  in_parts : (ss : Selectors) (n : Node) → charge_in root ss n ≡ count_of ss + extra_in root ss n
-  in_parts tree.no_selectors n = refl
-  in_parts (tree.selector s others) n = let a = one_each s n in let b = in_parts others n in omega (arith, a, b)
-
+module _ (law : PaysInParts) (root : Node) where
   all_in_parts : (ss : Selectors) (ns : List Node) → total_of (charge_in root ss) ns ≡ length ns * count_of ss + total_of (extra_in root ss) ns
   all_in_parts ss [] = omega arith
   all_in_parts ss (n ∷ ns) =
-      let a = in_parts ss n in
+      let a = law.parts root ss n in
       let b = all_in_parts ss ns in
       let m : suc (length ns) * count_of ss ≡ length ns * count_of ss + count_of ss = suc-mul (length ns) (count_of ss) in
       omega (arith, a, b, m)
@@ -133,18 +135,18 @@ count_is (s ∷ ss) = ap suc (count_is ss)
 pub descending : (root n : Node) (s : Stage) → s.descend ≡ true → nodes_from root (stage_view s).tree n ≡ flat_map (selected root (selectors_of (trees (map selection_view s.selections.items)))) (visit n)
 descending root n s e = rw (stage_is s, e) refl
 
-pub descending_charge : (root n : Node) (s : Stage) → s.descend ≡ true
+pub descending_charge : (law : PaysInParts) (root n : Node) (s : Stage) → s.descend ≡ true
     → charge_at root (stage_view s).tree n ≡ length (visit n) * length s.selections.items + total_of (extra_in root (selectors_of (trees (map selection_view s.selections.items)))) (visit n)
-descending_charge root n s e = rw (stage_is s, e) (all_in_parts root (selectors_of (trees (map selection_view s.selections.items))) (visit n) ∙ rw (count_is s.selections.items) refl)
+descending_charge law root n s e = rw (stage_is s, e) (all_in_parts law root (selectors_of (trees (map selection_view s.selections.items))) (visit n) ∙ rw (count_is s.selections.items) refl)
 
 -- from the node alone
 pub staying : (root n : Node) (s : Stage) → s.descend ≡ false → nodes_from root (stage_view s).tree n ≡ selected root (selectors_of (trees (map selection_view s.selections.items))) n
-staying root n s e = rw (stage_is s, e) (append_nil (selected root (selectors_of (trees (map selection_view s.selections.items))) n))
+staying root n s e = rw (stage_is s, e) (append-nil (selected root (selectors_of (trees (map selection_view s.selections.items))) n))
 
-pub staying_charge : (root n : Node) (s : Stage) → s.descend ≡ false
+pub staying_charge : (law : PaysInParts) (root n : Node) (s : Stage) → s.descend ≡ false
     → charge_at root (stage_view s).tree n ≡ length s.selections.items + extra_in root (selectors_of (trees (map selection_view s.selections.items))) n
-staying_charge root n s e =
-    let p = in_parts root (selectors_of (trees (map selection_view s.selections.items))) n in
+staying_charge law root n s e =
+    let p = law.parts root (selectors_of (trees (map selection_view s.selections.items))) n in
     let q = count_is s.selections.items in
     rw (stage_is s, e) (omega (arith, p, q))
 
@@ -155,11 +157,15 @@ module _ (root : Node) (l : Link) where
   nodes_linked [] = refl
   nodes_linked (n ∷ ns) =
       let found = selected_by root (link_selector l) n in
-      ap (λ xs. xs ++ nodes_after root (link_view l) ns) (append_nil (found ++ []) ∙ append_nil found) ∙ ap (λ ys. found ++ ys) (nodes_linked ns)
+      ap (λ xs. xs ++ nodes_after root (link_view l) ns) (append-nil (found ++ []) ∙ append-nil found) ∙ ap (λ ys. found ++ ys) (nodes_linked ns)
+
+  one_unit : (x : Link) (n : Node) → charge_by root (link_selector x) n ≡ 1
+  one_unit (Key name) n = refl
+  one_unit (Place i) n = refl
 
   charge_linked : (ns : List Node) → charge_after root (link_view l) ns ≡ length ns
   charge_linked [] = refl
-  charge_linked (n ∷ ns) = let h = charge_linked ns in let unit = one_unit root n l in omega (arith, h, unit)
+  charge_linked (n ∷ ns) = let h = charge_linked ns in let unit = one_unit l n in omega (arith, h, unit)
 
   pub extra_linked : (n : Node) → extra_by root (link_selector l) n ≡ 0
   extra_linked n = go l
@@ -173,11 +179,11 @@ pub finds_linked : (d : Doc) (r : Result (Vec NodeId Global) SelectFault) (root 
     → FindsList d r (nodes_after root s (nodes_of d ids)) (charge_after root s (nodes_of d ids)) old new
 finds_linked d (Ok v) root s l ids old new e h =
     let same : nodes_after root s (nodes_of d ids) ≡ flat_map (selected_by root (link_selector l)) (nodes_of d ids) = rw e (nodes_linked root l (nodes_of d ids)) in
-    let units : charge_after root s (nodes_of d ids) ≡ length ids = rw e (charge_linked root l (nodes_of d ids) ∙ length_nodes d ids) in
+    let units : charge_after root s (nodes_of d ids) ≡ length ids = rw e (charge_linked root l (nodes_of d ids) ∙ length-map ids (λ id. node_at d id.0)) in
     let paid = h.1 in
     (rw same h.0, omega (arith, units, paid))
 finds_linked d (Err f) root s l ids old new e h =
-    let units : charge_after root s (nodes_of d ids) ≡ length ids = rw e (charge_linked root l (nodes_of d ids) ∙ length_nodes d ids) in
+    let units : charge_after root s (nodes_of d ids) ≡ length ids = rw e (charge_linked root l (nodes_of d ids) ∙ length-map ids (λ id. node_at d id.0)) in
     refuses_from (length ids) old (charge_after root s (nodes_of d ids)) old f (λ lt. omega (arith, units, lt)) h
 
 pub ruleset selecting = (filter_charge, extra_linked)
@@ -191,9 +197,7 @@ adds_paid d (Err f) ids xs ys rest charge between old new units p q e h = refuse
 pub more_of : (out xs ys : List Node) → ys ≡ xs → out ++ ys ≡ out ++ xs
 more_of out xs ys e = ap (λ zs. out ++ zs) e
 
-pub ruleset totals = (visit_length)
-
-pub ruleset each_input = (append_nil, flat_more, sum_more, append_assoc, has_none)
+pub ruleset each_input = (append-nil, flat_more, sum_more, append_assoc, has_none)
 
 -- ---- Segments
 
@@ -228,61 +232,52 @@ finds_one d (Err f) root n ss s old new e h =
 
 -- ---- Descendants
 
-no_elements : (up : List Step) (k : ℕ) (t : Tree) → children_of up k t ≡ [] → elements_of up k t ≡ []
-no_elements up k (Leaf s c) e = refl
-no_elements up k (Arr s es) e = e
-no_elements up k (Obj s ms) e = refl
+pub leaf_holds : (law : PaysInParts) (root : Node) (ss : Selectors) (d : Doc) (ids : List NodeId) (n : Node) → Inside d ids → [] ≡ children n → Holds d ids (nodes_of d ids ++ selected root ss n)
+leaf_holds law root ss d ids n a c = rw (law.nothing root ss n (sym c)) (has_none d ids a)
 
-none_at : (i : IntLit) → at_index i [] ≡ []
-none_at Beyond = refl
-none_at (Within i) = go (position_in i 0)
-  where
-    go : (p : Option ℕ) → nth_if p [] ≡ []
-    go None = refl
-    go (Some n) = refl
+between_more : (d : Doc) (k e : ℕ) → k < e → seen d (counting k (e - k)) ≡ node_at d k ∷ seen d (counting (k + 1) (e - (k + 1)))
+between_more d k e h = let p : e - k ≡ suc (e - (k + 1)) = omega arith in let q : suc k ≡ k + 1 = omega arith in rw (p, q) refl
 
-none_ordered : (step : ℤ) → in_order step [] ≡ []
-none_ordered step = go (int_lt (pos 0) step) (int_lt step (pos 0))
-  where
-    go : (above below : Bool) → ◌≡◌ {A = List Node} (cond above [] (cond below (reverse []) [])) []
-    go true below = refl
-    go false true = refl
-    go false false = refl
+pub visit_more : (f : Node → List Node) (d : Doc) (k e : ℕ) → k < e → flat_map f (seen d (counting k (e - k))) ≡ f (node_at d k) ++ flat_map f (seen d (counting (k + 1) (e - (k + 1))))
+visit_more f d k e lt = ap (flat_map f) (between_more d k e lt)
 
-module _ (root n : Node) where
-  selects_none : (s : Selector) → children n ≡ [] → elements n ≡ [] → selected_by root s n ≡ []
-  unfolding sliced
-  selects_none (tree.name scalars) c e = rw c refl
-  selects_none tree.wild c e = c
-  selects_none (tree.index i) c e = rw (e, none_at i) refl
-  selects_none (tree.filter x) c e = rw c refl
-  selects_none (tree.slice start stop step) c e = rw (e, none_ordered (step_of step)) refl
-
-  costs_none : (s : Selector) → children n ≡ [] → elements n ≡ [] → extra_by root s n ≡ 0
-  unfolding sliced
-  costs_none (tree.name scalars) c e = refl
-  costs_none tree.wild c e = rw c refl
-  costs_none (tree.index i) c e = refl
-  costs_none (tree.filter x) c e = rw c refl
-  costs_none (tree.slice start stop step) c e = rw (e, none_ordered (step_of step)) refl
-
-  select_none : (ss : Selectors) → children n ≡ [] → elements n ≡ [] → selected root ss n ≡ []
-  select_none tree.no_selectors c e = refl
-  select_none (tree.selector s others) c e = rw (selects_none s c e, select_none others c e) refl
-
-  cost_none : (ss : Selectors) → children n ≡ [] → elements n ≡ [] → extra_in root ss n ≡ 0
-  cost_none tree.no_selectors c e = refl
-  cost_none (tree.selector s others) c e = rw (costs_none s c e, cost_none others c e) refl
-
-pub leaf_holds : (root : Node) (ss : Selectors) (d : Doc) (ids : List NodeId) (n : Node) → Inside d ids → [] ≡ children n → Holds d ids (nodes_of d ids ++ selected root ss n)
-leaf_holds root ss d ids n a c =
-    let e = select_none root n ss (sym c) (no_elements n.way_up n.number n.tree (sym c)) in
-    rw e (has_none d ids a)
-
-pub leaf_costs : (root : Node) (ss : Selectors) (n : Node) → [] ≡ children n → extra_in root ss n ≡ 0
-leaf_costs root ss n c = cost_none root n ss (sym c) (no_elements n.way_up n.number n.tree (sym c))
+pub visit_charged : (f : Node → ℕ) (d : Doc) (k e : ℕ) → k < e → total_of f (seen d (counting k (e - k))) ≡ f (node_at d k) + total_of f (seen d (counting (k + 1) (e - (k + 1))))
+visit_charged f d k e lt = ap (total_of f) (between_more d k e lt)
 
 pub ruleset visiting = (visit_more, visit_charged, append_assoc, has_none)
+
+-- ---- A lone name, and a lone wildcard
+
+names_free : (root : Node) (scalars : List ℕ) (ns : List Node) → total_of (extra_in root (tree.selector (tree.name scalars) tree.no_selectors)) ns ≡ 0
+names_free root scalars [] = refl
+names_free root scalars (n ∷ ns) = let h = names_free root scalars ns in omega (arith, h)
+
+adds_free : {A : Type 0} (d : Doc) (r : Result A SelectFault) (ids : List NodeId) (xs : List Node) (charge left : ℕ)
+    → MatchResult r (λ _. Holds d ids xs) (λ e. e ≡ Memory) → charge ≡ 0 → Adds d r ids xs charge left left
+adds_free d (Ok a) ids xs charge left h e = (h, omega (arith, e))
+adds_free d (Err f) ids xs charge left h e = rw h tt
+
+pub adds_named : {A : Type 0} (d : Doc) (r : Result A SelectFault) (ids : List NodeId) (root n : Node) (out : List Node) (ss : List Selector) (scalars : List ℕ) (left : ℕ)
+    → ss ≡ tree.name scalars ∷ []
+    → MatchResult r (λ _. Holds d ids (out ++ flat_map (selected root (tree.selector (tree.name scalars) tree.no_selectors)) (visit n))) (λ e. e ≡ Memory)
+    → Adds d r ids (out ++ flat_map (selected root (selectors_of ss)) (visit n)) (total_of (extra_in root (selectors_of ss)) (visit n)) left left
+adds_named d r ids root n out ss scalars left e h =
+    let free = names_free root scalars (visit n) in
+    rw e (adds_free d r ids (out ++ flat_map (selected root (tree.selector (tree.name scalars) tree.no_selectors)) (visit n)) (total_of (extra_in root (tree.selector (tree.name scalars) tree.no_selectors)) (visit n)) left h free)
+
+wild_selected : (root : Node) (ns : List Node) → flat_map (selected root (tree.selector tree.wild tree.no_selectors)) ns ≡ flat_map children ns
+wild_selected root [] = refl
+wild_selected root (n ∷ ns) = rw (append-nil (children n), wild_selected root ns) refl
+
+wild_charged : (root : Node) (ns : List Node) → total_of (extra_in root (tree.selector tree.wild tree.no_selectors)) ns ≡ length (flat_map children ns)
+wild_charged root [] = refl
+wild_charged root (n ∷ ns) = let h = wild_charged root ns in let l = length-append (children n) (flat_map children ns) in omega (arith, h, l)
+
+pub adds_wild : {A : Type 0} (d : Doc) (r : Result A SelectFault) (ids : List NodeId) (root n : Node) (out : List Node) (ss : List Selector) (old new : ℕ)
+    → ss ≡ tree.wild ∷ []
+    → Adds d r ids (out ++ flat_map children (visit n)) (length (flat_map children (visit n))) old new
+    → Adds d r ids (out ++ flat_map (selected root (selectors_of ss)) (visit n)) (total_of (extra_in root (selectors_of ss)) (visit n)) old new
+adds_wild d r ids root n out ss old new e h = rw (e, wild_selected root (visit n), wild_charged root (visit n)) h
 
 -- ---- A list that grows as the rest becomes shorter
 

@@ -1,6 +1,8 @@
 pub mod Found
 pub mod Slots
 pub mod Paid
+pub mod Parts
+pub mod Decided
 pub mod Filtering
 pub mod Rows
 pub mod Telling

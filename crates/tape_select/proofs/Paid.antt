@@ -14,15 +14,19 @@ use Rattle.node_lists.specs.Charge.{charge_expr, charge_exprs, charge_side}
 use Rattle.node_lists.specs.Evaluation.{holds, some_hold, all_hold, result}
 use Rattle.node_lists.specs.Paying.{Refuses, Finds}
 use Rattle.node_lists.specs.declared.fault.SelectFault.{SelectFault}
-use Rattle.node_lists.proofs.Following.{refuses_from}
+use Rattle.node_lists.specs.declared.fault.SelectFault.TheVariants.{Costly, Memory}
 use Rattle.query_plan.specs.Planned.{joined}
-use Rattle.query_plan.proofs.Deciding.{charge_decided, holds_decided, unused}
-use Rattle.query_plan.proofs.Joining.{charge_listed, holds_listed, holds_each}
+use Rattle.query_plan.specs.Laws.{MeansConditions}
+use Rattle.tape_select.proofs.Decided.{holds_decided, unused}
 
-module _ (law : TellsAsCompared) (root n : Node) (side : Comparable) (t : Tested) where
+pub refuses_from : (c1 left1 c2 left2 : ℕ) (e : SelectFault) → (left1 < c1 → left2 < c2) → Refuses c1 left1 e → Refuses c2 left2 e
+refuses_from c1 left1 c2 left2 Costly f h = f h
+refuses_from c1 left1 c2 left2 Memory f h = tt
+
+module _ (means : MeansConditions) (law : TellsAsCompared) (root n : Node) (side : Comparable) (t : Tested) where
   pub free : (r : Relation) → (IsTrue (meets_root t) → IsRelated r (Some (value_of n.tree)) (Some (value_of root.tree))) → (old : ℕ) (found : Bool) → uses t ≡ 0 → found ≡ truth None r t → Finds {A = Bool} (Ok found) (holds root (expr_of side t) n) (charge_expr root (expr_of side t) n) old old
   free r h old found none e =
-      let c = charge_decided root n side t in
+      let c = means.paid_decided root n side t in
       let z : uses t * charge_side root side n ≡ 0 = rw none (omega arith) in
       (e ∙ unused None (result root side n) r t none ∙ sym (holds_decided root n side law r t h), omega arith)
 
@@ -33,7 +37,7 @@ module _ (law : TellsAsCompared) (root n : Node) (side : Comparable) (t : Tested
   pub paid : (r : Relation) → (IsTrue (meets_root t) → IsRelated r (Some (value_of n.tree)) (Some (value_of root.tree))) → (old left new times once : ℕ) (found : Bool) → times ≡ uses t → 0 < times → left + charge_side root side n ≡ old → once + left ≡ old → new + (times - 1) * once ≡ left → found ≡ truth (result root side n) r t
       → Finds {A = Bool} (Ok found) (holds root (expr_of side t) n) (charge_expr root (expr_of side t) n) old new
   paid r h old left new times once found same some a b c e =
-      let charge = charge_decided root n side t in
+      let charge = means.paid_decided root n side t in
       let one : once ≡ charge_side root side n = omega arith in
       let all = once_more times once some in
       let whole : times * once ≡ charge_expr root (expr_of side t) n = rw (one, same) (sym charge) in
@@ -41,14 +45,14 @@ module _ (law : TellsAsCompared) (root n : Node) (side : Comparable) (t : Tested
 
   pub refused_first : (old times : ℕ) (f : SelectFault) → times ≡ uses t → 0 < times → Refuses (charge_side root side n) old f → Refuses (charge_expr root (expr_of side t) n) old f
   refused_first old times f same some h =
-      let charge = charge_decided root n side t in
+      let charge = means.paid_decided root n side t in
       let all = once_more times (charge_side root side n) some in
       let whole : times * charge_side root side n ≡ charge_expr root (expr_of side t) n = rw same (sym charge) in
       refuses_from (charge_side root side n) old (charge_expr root (expr_of side t) n) old f (λ l. omega arith) h
 
   pub refused_then : (old left times once : ℕ) (f : SelectFault) → times ≡ uses t → 0 < times → left + charge_side root side n ≡ old → once + left ≡ old → Refuses ((times - 1) * once) left f → Refuses (charge_expr root (expr_of side t) n) old f
   refused_then old left times once f same some a b h =
-      let charge = charge_decided root n side t in
+      let charge = means.paid_decided root n side t in
       let one : once ≡ charge_side root side n = omega arith in
       let all = once_more times once some in
       let whole : times * once ≡ charge_expr root (expr_of side t) n = rw (one, same) (sym charge) in
@@ -56,11 +60,11 @@ module _ (law : TellsAsCompared) (root n : Node) (side : Comparable) (t : Tested
 
 -- ---- In parts
 
-module _ (root n : Node) where
+module _ (means : MeansConditions) (root n : Node) where
   pub finds_some : (r : Result Bool SelectFault) (is_any : Bool) (ks : List ℕ) (es : List Expr) (old new : ℕ) → is_any ≡ true → Finds r (some_hold root (exprs_of es) n) (charge_exprs root (exprs_of es) n) old new
       → Finds r (holds root (listed is_any (joined is_any ks es)) n) (charge_expr root (listed is_any (joined is_any ks es)) n) old new
-  finds_some r is_any ks es old new e h = rw (holds_listed root n is_any ks es e, charge_listed root n is_any ks es) h
+  finds_some r is_any ks es old new e h = rw (means.some root n is_any ks es e, means.paid_joined root n is_any ks es) h
 
   pub finds_all : (r : Result Bool SelectFault) (is_any : Bool) (ks : List ℕ) (es : List Expr) (old new : ℕ) → is_any ≡ false → Finds r (all_hold root (exprs_of es) n) (charge_exprs root (exprs_of es) n) old new
       → Finds r (holds root (listed is_any (joined is_any ks es)) n) (charge_expr root (listed is_any (joined is_any ks es)) n) old new
-  finds_all r is_any ks es old new e h = rw (holds_each root n is_any ks es e, charge_listed root n is_any ks es) h
+  finds_all r is_any ks es old new e h = rw (means.all root n is_any ks es e, means.paid_joined root n is_any ks es) h

@@ -1,11 +1,12 @@
 -- Slots: one is read, one is filled.
 use Rattle.std.proofs.Common.{◌≡◌, ℕ, zero, suc, ◌+◌, ◌<◌, List, [], ◌∷◌, ◌++◌, length, get_or, slice_set, Option, Some, None, subst, arith}
 use Rattle.json_tape.specs.Document.{Doc, node_at}
-use Rattle.query_plan.specs.Planned.{Claimed, Claims, look}
+use Rattle.query_plan.specs.Planned.{Claimed, Claims, look, numbered}
 use Rattle.tape_select.specs.Memo.{IsKept, IsFoundAt, RightFrom, Right}
 use Rattle.tape_select.specs.declared.state.Found.{Found}
 use Rattle.tape_select.specs.declared.state.Kept.{Kept}
-use Rattle.query_plan.proofs.Claims.{all_claimed}
+use Rattle.query_plan.specs.Laws.{FindsSlots}
+use Rattle.query_plan.specs.Slots.{AreClaimed}
 
 right_from_at : (d : Doc) (table : Claims) (k : ℕ) (ss : List (Option Kept)) (i : ℕ) (z : Option Kept) → i < length ss → RightFrom d table k ss
     → IsKept d (look table (k + i)) (get_or ss i z)
@@ -44,5 +45,8 @@ pub right_push : (d : Doc) (table : Claims) (ss : List (Option Kept)) → Right 
 right_push d table ss r = right_from_push d table 0 ss r
 
 pub ruleset emptied = (right_push, right_at)
+
+pub all_claimed : (law : FindsSlots) (c : Claims) (total : ℕ) → numbered c 0 ≡ Some total → AreClaimed c c
+all_claimed law c total h = law c total h
 
 pub ruleset claimed = (all_claimed)

@@ -24,8 +24,8 @@ use Rattle.node_lists.specs.Charge.{charge_expr, charge_exprs, charge_side, char
 use Rattle.node_lists.specs.Evaluation.{holds, some_hold, all_hold, result, called, argued}
 use Rattle.tape_select.specs.Memo.{IsTruth}
 use Rattle.query_plan.specs.Planned.{Claimed, a_condition}
-use Rattle.decisions.specs.Told.{is_alone, is_free_call, are_free, is_free_argument, is_free, is_written, is_told_pair, is_told, are_told, whole, totals, argument_lengths, call_lengths, side_literals, literals, all_literals, values_on, beside, values_in, is_told_on, HasLength, AreApart, IsCell}
-use Rattle.query_plan.proofs.Deciding.{forth, back}
+use Rattle.decisions.specs.Decided.{is_alone, is_free_call, are_free, is_free_argument, is_free, is_written, is_told_pair, is_told, are_told, whole, totals, argument_lengths, call_lengths, side_literals, literals, all_literals, values_on, beside, values_in, is_told_on, HasLength, AreApart, IsCell}
+use Rattle.tape_select.proofs.Decided.{forth, back}
 
 and_first : (a b : Bool) → IsTrue (a && b) → IsTrue a
 and_first true b h = refl

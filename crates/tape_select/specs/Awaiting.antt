@@ -14,7 +14,7 @@ pub record Awaits (d : Doc) (table : Claims) (n : Node) (q : Nested) (paid charg
   pub slot : IsSome (out-Nested q).slot
   pub claimed : AreClaimed table (nested_view q).claims
 
--- the same where no query is awaited
+-- a query is awaited, or none is and so much is paid
 abbrev pub AwaitsSome : Doc → Claims → Node → Option (Bor Nested) → (paid charge : ℕ) → Type 0
 AwaitsSome d table n None paid charge = paid ≤ charge
 AwaitsSome d table n (Some q) paid charge = Awaits d table n q.now paid charge

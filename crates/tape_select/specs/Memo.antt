@@ -8,7 +8,7 @@ use Rattle.json_tape.specs.Document.{Doc, node_at, IsIn}
 use Rattle.tape_values.specs.Comparison.{Value}
 use Rattle.compared_sides.specs.Values.{value_found}
 use Rattle.tape_values.specs.Functions.{only_value}
-use Rattle.decisions.specs.Told.{IsCell}
+use Rattle.decisions.specs.Decided.{IsCell}
 use Rattle.node_lists.specs.Evaluation.{evaluated, holds, start}
 use Rattle.node_lists.specs.Charge.{charge_from}
 use Rattle.query_plan.specs.Planned.{Claimed, a_query, a_condition, Claims, look}
@@ -52,7 +52,7 @@ Right d table slots = RightFrom d table 0 slots
 abbrev pub FindsNodes : Doc → Result Found SelectFault → Segments → Node → (old new : ℕ) → Type 0
 FindsNodes d r q from old new = MatchResult r (λ f. IsFound d from q f × (new + charge_from (node_at d 0) q (from ∷ []) ≡ old)) (λ e. Refuses (charge_from (node_at d 0) q (from ∷ [])) old e)
 
--- the same of a query in a filter, at a child
+-- what a query in a filter finds at a child
 abbrev pub FindsFor : Doc → Result Found SelectFault → Nested → Node → (old new : ℕ) → Type 0
 FindsFor d r (nested from_root q) n old new = FindsNodes d r q (start (node_at d 0) from_root n) old new
 

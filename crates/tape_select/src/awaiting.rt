@@ -14,7 +14,7 @@ ghost use Rattle.tape_select.specs.Memo.{Right};
 use crate::state::{Kept, beginning, recall};
 use decisions::Decision;
 use json_tape::{Document, NodeId};
-use query_plan::{Condition, Nested, Operand, Parts};
+use query_plan::{Condition, Nested, Operand, Parts, means_conditions};
 
 /// What a condition awaits for a child.
 #[derive(Clone, Copy)]
@@ -109,6 +109,7 @@ fn of_parts<'p>(
     requires right { Right doc.now (claims_of plan.now.stages.items) slots.now }
     ensures { AwaitsSome doc.now (claims_of plan.now.stages.items) (node_at doc.now child.0) result.query result.paid (charge_expr (node_at doc.now 0) (listed is_any (joined is_any numbers.now (trees (map condition_view parts.now)))) (node_at doc.now child.0)) }
 {
+    means_conditions();
     let _ = is_any;
     let _ = numbers;
     of_operands(doc, plan, slots, parts, child)
@@ -128,6 +129,7 @@ fn of_decided<'p>(
     requires right { Right doc.now (claims_of plan.now.stages.items) slots.now }
     ensures { AwaitsSome doc.now (claims_of plan.now.stages.items) (node_at doc.now child.0) result.query result.paid (charge_expr (node_at doc.now 0) (expr_of (operand_view operand.now).tree (test_view decision.now)) (node_at doc.now child.0)) }
 {
+    means_conditions();
     if decision.uses() == 0 {
         return Awaited {
             paid: 0,

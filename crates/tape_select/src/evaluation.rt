@@ -6,7 +6,7 @@ ghost use Rattle.json_tape.specs.Nodes.{children, visit};
 ghost use Rattle.path_grammar.specs.Tree.{exprs_of, selectors_of};
 ghost use Rattle.decisions.specs.Tree.{expr_of, listed};
 ghost use Rattle.decisions.specs.Views.{test_view};
-ghost use Rattle.decisions.specs.Told.{is_told_on};
+ghost use Rattle.decisions.specs.Decided.{is_told_on};
 ghost use Rattle.node_lists.specs.Evaluation.{evaluated, selected, selected_by, holds, some_hold, all_hold, result as side_result};
 ghost use Rattle.node_lists.specs.Links.{link_view};
 ghost use Rattle.node_lists.specs.Nodelists.{nodes_of};
@@ -17,19 +17,20 @@ ghost use Rattle.query_plan.specs.Planned.{a_query, a_condition, trees, joined, 
 ghost use Rattle.query_plan.specs.Slots.{AreClaimed};
 ghost use Rattle.tape_select.specs.Memo.{FindsNodes, FindsFor, FindsSide, Keeps};
 
-use crate::state::{Found, State, beginning, found_by_links, found_in, keep, recall};
-use crate::truths::{keep as keep_truth, known};
+use crate::state::{Found, State, beginning, found_by_links, found_in, keep_found, recall};
+use crate::truths::{keep_truth, known_truth};
 use compared_sides::{
     cell_of, compare, compare_length, decision_holds, length_of, related, side_found,
 };
 use decisions::{Decision, Scale, tells_as_compared, tells_by_marks};
 use json_tape::{Document, NodeId};
 use node_lists::{
-    Link, SelectFault, child_total, children_below, followed, lone, named, push, push_some, sliced,
-    step, stepped, wild,
+    Link, SelectFault, child_total, children_below, followed, lone, named, push, push_some,
+    selectors_pay_in_parts, sliced, step, stepped, visit_total, wild,
 };
 use query_plan::{
-    Condition, Nested, Operand, Parts, Selection, Stage, is_wild, lone_link, only_link, units_of,
+    Condition, Nested, Operand, Parts, Selection, Stage, follows_links, is_wild, lone_link,
+    means_conditions, only_link, units_of,
 };
 use std::slice::from_ref;
 use tape_values::{Side, compare_found};
@@ -90,7 +91,7 @@ pub fn does_hold(
     }
 }
 
-// The same, whatever the condition is.
+// Whether a condition of any kind holds for a child.
 #[cycle(evaluation)]
 #[inline(never)]
 #[tactic(auto, using(crate::proofs::Filtering::holding))]
@@ -160,7 +161,7 @@ fn remembered(
     let Some(cell) = cell_of(doc, scale, child, &mut state.lengths, &mut state.answers) else {
         return holds_by_kind(doc, plan, condition, child, state);
     };
-    if let Some(held) = known(doc, plan, &state.truths, slot, cell) {
+    if let Some(held) = known_truth(doc, plan, &state.truths, slot, cell) {
         return Ok(held);
     }
     let held = holds_by_kind(doc, plan, condition, child, state)?;
@@ -187,6 +188,7 @@ fn joined_hold(
     ensures found { Finds result (holds (node_at doc.now 0) (listed is_any (joined is_any numbers.now (trees (map condition_view parts.now)))) (node_at doc.now child.0)) (charge_expr (node_at doc.now 0) (listed is_any (joined is_any numbers.now (trees (map condition_view parts.now)))) (node_at doc.now child.0)) state.old.meter.left state.new.meter.left }
     ensures kept { Keeps doc.now (claims_of plan.now.stages.items) state.new }
 {
+    means_conditions();
     let _ = numbers;
     if is_any {
         return some_hold(doc, plan, parts, child, state);
@@ -211,6 +213,7 @@ fn decided(
     ensures found { Finds result (holds (node_at doc.now 0) (expr_of (operand_view operand.now).tree (test_view decision.now)) (node_at doc.now child.0)) (charge_expr (node_at doc.now 0) (expr_of (operand_view operand.now).tree (test_view decision.now)) (node_at doc.now child.0)) state.old.meter.left state.new.meter.left }
     ensures kept { Keeps doc.now (claims_of plan.now.stages.items) state.new }
 {
+    means_conditions();
     tells_as_compared();
     let relation = related(doc, decision, child, &mut state.answers);
     let times = decision.uses();
@@ -329,7 +332,7 @@ fn side_of<'a>(
     }
 }
 
-// The same, whatever the side is.
+// What a side of any kind is for a child.
 #[cycle(evaluation)]
 #[inline(never)]
 #[tactic(auto, using(crate::proofs::Filtering::siding))]
@@ -424,7 +427,7 @@ fn found_once(
         }
         None => {
             let found = found_from(doc, plan, links, stages, n, state)?;
-            keep(doc, plan, &mut state.slots, slot, n, found);
+            keep_found(doc, plan, &mut state.slots, slot, n, found);
             Ok(found)
         }
     }
@@ -453,7 +456,7 @@ fn found_from(
     }
 }
 
-// The same where segments stand behind the names and indexes.
+// What a query finds that has segments behind its names and indexes.
 #[cycle(evaluation)]
 #[inline(never)]
 fn found_behind(
@@ -470,6 +473,7 @@ fn found_behind(
     ensures found { FindsNodes doc.now result (path_of links.now stages.now) (node_at doc.now n.0) state.old.meter.left state.new.meter.left }
     ensures kept { Keeps doc.now (claims_of plan.now.stages.items) state.new }
 {
+    follows_links();
     let units = state.meter.left;
     let Some(first) = followed(doc, links, n, &mut state.meter)? else {
         return Ok(found_in(doc, &[], units - state.meter.left));
@@ -499,7 +503,7 @@ pub fn all_selected(
     }
 }
 
-// The same, stage by stage.
+// The nodes that some stages, or none, select from a node, one after the other.
 #[cycle(evaluation)]
 fn selected_in_turn(
     doc: &Document,
@@ -542,7 +546,7 @@ fn after_stage(
     }
 }
 
-// The same, whatever the segment is.
+// The nodes that a segment of any kind selects from those of a list.
 #[cycle(evaluation)]
 #[tactic(auto, using(crate::proofs::Filtering::each_input))]
 fn after_each(
@@ -571,15 +575,6 @@ fn selector_total(stage: &Stage) -> u64
     stage.selections.len() as u64
 }
 
-// How many nodes there are in a node, itself included.
-#[tactic(auto, using(crate::proofs::Filtering::totals))]
-pub fn visit_total(doc: &Document, n: NodeId) -> u64
-    requires { n.0 < count doc.now }
-    ensures { result ≡ length (visit (node_at doc.now n.0)) }
-{
-    u64::from(doc.after(n) - n.0)
-}
-
 // What a segment selects from one node. Each selector's unit is paid here, for all nodes at once.
 #[cycle(evaluation)]
 pub fn from_node(
@@ -597,9 +592,12 @@ pub fn from_node(
     ensures added { Adds doc.now result out.new.items (nodes_of doc.now out.old.items ++ nodes_from (node_at doc.now 0) (stage_view stage.now).tree (node_at doc.now n.0)) (charge_at (node_at doc.now 0) (stage_view stage.now).tree (node_at doc.now n.0)) state.old.meter.left state.new.meter.left }
     ensures kept { Keeps doc.now (claims_of plan.now.stages.items) state.new }
 {
+    selectors_pay_in_parts();
     let selectors = selector_total(stage);
     if stage.descend {
-        state.meter.spend_each(visit_total(doc, n), selectors)?;
+        state
+            .meter
+            .spend_each(u64::from(visit_total(doc, n)), selectors)?;
         visited(doc, plan, &stage.selections, n, state, out)
     } else {
         state.meter.spend(selectors)?;
@@ -633,7 +631,7 @@ fn visited(
     }
 }
 
-// The same, whatever the selectors are.
+// What selectors of any kind select from a node and all its descendants.
 #[cycle(evaluation)]
 #[tactic(auto, using(crate::proofs::Filtering::visiting))]
 fn visited_each(
@@ -675,6 +673,7 @@ fn selected_within(
     ensures added { Adds doc.now result out.new.items (nodes_of doc.now out.old.items ++ selected (node_at doc.now 0) (selectors_of (trees (map selection_view selections.now))) (node_at doc.now n.0)) (extra_in (node_at doc.now 0) (selectors_of (trees (map selection_view selections.now))) (node_at doc.now n.0)) state.old.meter.left state.new.meter.left }
     ensures kept { Keeps doc.now (claims_of plan.now.stages.items) state.new }
 {
+    selectors_pay_in_parts();
     match doc.first_child(n) {
         None => Ok(()),
         Some(_) => selected_from(doc, plan, selections, n, state, out),

@@ -12,8 +12,8 @@ mod state;
 mod truths;
 
 pub use awaiting::{Awaited, first_awaited};
-pub use evaluation::{does_hold, from_node, visit_total};
+pub use evaluation::{does_hold, from_node};
 pub use node_lists::SelectFault;
 pub use planning::{BUDGET, Plan, select};
 pub use selecting::{Selected, empty_slots, select_all};
-pub use state::{State, beginning, found_in, keep};
+pub use state::{State, beginning, found_in, keep_found};

@@ -13,7 +13,7 @@ use crate::state::{Kept, State};
 use compared_sides::no_lengths;
 use json_tape::{Document, NodeId};
 use node_lists::{Meter, SelectFault};
-use query_plan::Parts;
+use query_plan::{Parts, finds_slots};
 use std::alloc::Global;
 
 /// The nodes that a query selects, in its order, with duplicates, and what it is charged.
@@ -52,6 +52,7 @@ pub fn select_all(
     requires { numbered (claims_of plan.now.stages.items) 0 ≡ Some plan.now.slots }
     ensures { MatchResult result (λ s. Holds doc.now s.nodes.items (nodes_selected (tree_of doc.now) (query_of plan.now.stages.items)) × ((s.charge ≡ charge (tree_of doc.now) (query_of plan.now.stages.items)) × (s.charge ≤ units))) (λ e. Refuses (charge (tree_of doc.now) (query_of plan.now.stages.items)) units e) }
 {
+    finds_slots();
     let slots = empty_slots(alloc, doc, plan)?;
     let mut state = State {
         alloc,

@@ -11,7 +11,7 @@ ghost use Rattle.compared_sides.specs.Values.{value_found};
 ghost use Rattle.query_plan.specs.Planned.{claims_of, look};
 ghost use Rattle.node_lists.specs.Links.{links_view};
 
-use compared_sides::{Answer, Lengths};
+use compared_sides::{Compared, Lengths};
 use json_tape::{Document, NodeId};
 use node_lists::{Link, Meter, SelectFault, followed};
 use query_plan::Parts;
@@ -41,7 +41,7 @@ pub struct State {
     pub meter: Meter,
     /// What was found last for each of the queries.
     pub slots: Vec<Option<Kept>>,
-    pub answers: Vec<Option<Answer>>,
+    pub answers: Vec<Option<Compared>>,
     pub lengths: Lengths,
     /// For each slot of a condition its truths, by cells.
     pub truths: Vec<Vec<Option<bool>>>,
@@ -50,7 +50,7 @@ pub struct State {
 // What the slot holds.
 #[inline(always)]
 #[tactic(auto, using(crate::proofs::Slots::slots))]
-fn held(doc: &Document, plan: &Parts, slots: &[Option<Kept>], slot: u32) -> Option<Kept>
+fn kept_in(doc: &Document, plan: &Parts, slots: &[Option<Kept>], slot: u32) -> Option<Kept>
     requires { Right doc.now (claims_of plan.now.stages.items) slots.now }
     ensures { IsKept doc.now (look (claims_of plan.now.stages.items) slot) result }
 {
@@ -76,7 +76,7 @@ pub fn recall(
     requires right { Right doc.now (claims_of plan.now.stages.items) slots.now }
     ensures { IfSome result (λ found. IsFoundAt doc.now (look (claims_of plan.now.stages.items) slot) (node_at doc.now n.0) found) }
 {
-    let kept = held(doc, plan, slots, slot)?;
+    let kept = kept_in(doc, plan, slots, slot)?;
     if kept.from.0 == n.0 {
         Some(kept.found)
     } else {
@@ -86,7 +86,7 @@ pub fn recall(
 
 /// Keeps what was found from a node.
 #[tactic(auto, using(crate::proofs::Slots::slots))]
-pub fn keep(
+pub fn keep_found(
     doc: &Document,
     plan: &Parts,
     slots: &mut [Option<Kept>],

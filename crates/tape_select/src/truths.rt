@@ -33,7 +33,7 @@ fn known_in(
 
 /// The truth of the condition with this slot in a cell, where it is kept.
 #[tactic(auto, using(crate::proofs::Rows::rows))]
-pub fn known(
+pub fn known_truth(
     doc: &Document,
     plan: &Parts,
     rows: &[Vec<Option<bool>>],
@@ -82,7 +82,7 @@ fn keep_in(
 
 /// Keeps the truth of the condition with this slot in a cell, as far as there is memory.
 #[tactic(auto, using(crate::proofs::Rows::rows))]
-pub fn keep(
+pub fn keep_truth(
     alloc: Global,
     doc: &Document,
     plan: &Parts,

@@ -16,7 +16,7 @@ pub picked_same : (p q : ℕ → Bool) (i : ℕ) (ns : List Node) → ((j : ℕ)
 picked_same p q i [] h = refl
 picked_same p q i (n ∷ ns) h = rw (h i, picked_same p q (suc i) ns h) refl
 
--- ---- The same places counted from the last one
+-- ---- The places of a slice, counted from the last one
 
 -- what lies before a multiple of the step is what is left of the whole
 from_front : (before after step : ℕ) → after % step ≡ 0 → ((before + after) % step ≤ before) × ((before - (before + after) % step) % step ≡ 0)

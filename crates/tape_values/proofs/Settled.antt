@@ -182,7 +182,7 @@ settled head tail u v all =
     let p = passes Between 0 None (chars head) (chars tail) all tt in
     (IsUtf8-append head tail u v, (p.0, λ cs. ap (λ xs. scalars_in (xs ++ cs)) (chars-append head tail u) ∙ p.1 cs))
 
--- the same of the two parts of one text
+-- two parts of one text are settled
 pub settled_parts : (text head tail : List ℕ) (n : ℕ) → head ≡ take n text → tail ≡ drop n text → IsUtf8 head → IsUtf8 tail → (read : List ℕ) → read ≡ tail → AreSettled (chars read) → IsSettled text
 settled_parts text head tail n front back u v read same all = subst IsSettled (ap (λ xs. xs ++ tail) front ∙ ap (λ xs. take n text ++ xs) back ∙ take-append-drop n text) (settled head tail u v (subst (λ l. AreSettled (chars l)) same all))
 

@@ -235,7 +235,7 @@ text_at-keep c (e ∷ es) ds m a b i h =
 pub text_at-remove : (c d : List ℕ) (m : Map) (a b : List ℕ) → IsMap m → text_at a b (remove_text c d m) ≡ cond (at a c && at b d) None (text_at a b m)
 text_at-remove c d m a b i = by (lookup (at c) m) refl
   where
-    -- the same text, taken out of the documents of that collection
+    -- the text, taken out of the documents of that collection
     one : (ds : Documents) → lookup (at c) m ≡ Some ds → at a c ≡ true → text_at a b m ≡ lookup (at b) ds
     one ds h l = ap (λ o. option_and_then (λ (es : Documents). lookup (at b) es) o) (lookup_like a c m l ∙ h)
 

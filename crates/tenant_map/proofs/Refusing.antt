@@ -85,7 +85,7 @@ pub not_free : (o : Option (List ℕ)) → is_some o ≡ true → o ≡ None →
 not_free None e n = absurd cc
 not_free (Some x) e n = absurd cc
 
--- the same of a call's result, by the text that was read
+-- a refused put keeps the map, by a call's result and the text that was read
 pub put_keeps : (c d read text : List ℕ) (m : Map) (r : Result (Unit {0}) StoreFault) → read ≡ text → IsDocument text → IfErr r (FailsKeeping c d read m) → IfErr r (RefusesPut c d text m)
 put_keeps c d read text m (Ok x) e doc h = tt
 put_keeps c d read text m (Err f) e doc h = kept_refused c d text m f doc (subst (λ t. FailsKeeping c d t m f) e h)

@@ -17,7 +17,7 @@ use Rattle.tenant_map.specs.Kept.{AreKept, texts}
 use Rattle.tenant_map.specs.Listings.{number}
 use Rattle.tenant_map.specs.declared.faults.StoreFault.{StoreFault}
 use Rattle.tenant_map.specs.declared.faults.StoreFault.TheVariants as faults
-use Rattle.tenant_store.specs.declared.walk.Place.{Place}
+use Rattle.tenant_store.specs.declared.walk.Reached.{Reached}
 use Rattle.tenant_store.specs.declared.tasks.QueryTask.{QueryTask}
 use Rattle.tenant_store.specs.Hits.{Hit, hits}
 use Rattle.tenant_store.specs.Payloads.{Text, hit_bytes, hits_bytes, found_in, found_bytes, hit_count, payload, query_fault, IsFault, AnswersQuery, RefusesQuery}
@@ -93,7 +93,7 @@ length-head x = length-append (number 0) x ∙ ap (λ k. k + length x) (length-n
 
 -- ---- Where a query is
 
-pub sizes : (q : Segments) (texts rest : List Text) (place : Place) (start : ℕ) (out : List ℕ) → Passes q texts rest place.units place.hits (drop start out) → start ≤ length out → AreSizes place start (length out)
+pub sizes : (q : Segments) (texts rest : List Text) (place : Reached) (start : ℕ) (out : List ℕ) → Passes q texts rest place.units place.hits (drop start out) → start ≤ length out → AreSizes place start (length out)
 sizes q texts rest place start out p s =
     let n : length (drop start out) ≡ 4 + length (found_bytes q p.passed) = ap (λ (x : List ℕ). length x) p.bytes ∙ length-head (found_bytes q p.passed) in
     let d : length (drop start out) ≡ length out - start = length-drop start out in
@@ -116,7 +116,7 @@ begins q texts = record {
   bytes = sym (append-nil (number 0));
 }
 
-pub adds : (q : Segments) (texts rest : List Text) (t : Text) (place next : Place) (start : ℕ) (before after : List ℕ) → Passes q texts (t ∷ rest) place.units place.hits (drop start before)
+pub adds : (q : Segments) (texts rest : List Text) (t : Text) (place next : Reached) (start : ℕ) (before after : List ℕ) → Passes q texts (t ∷ rest) place.units place.hits (drop start before)
     → Adds q t place next before after → start ≤ length before → length after ≤ start + payload_limit → Passes q texts rest next.units next.hits (drop start after)
 adds q texts rest t place next start before after p a s l =
     let b : length (drop start before) ≡ 4 + length (found_bytes q p.passed) = ap (λ (x : List ℕ). length x) p.bytes ∙ length-head (found_bytes q p.passed) in
@@ -152,10 +152,10 @@ none_left : (rest : List Text) (n : ℕ) → length rest ≡ n → n ≡ 0 → r
 none_left [] n e z = refl
 none_left (t ∷ ts) n e z = absurd (omega (arith, e, z))
 
-all_passed : (q : Segments) (texts : List Text) (place : Place) (written : List ℕ) (at : IsAt q texts place written) → place.documents ≡ 0 → texts ≡ at.passes.passed
+all_passed : (q : Segments) (texts : List Text) (place : Reached) (written : List ℕ) (at : IsAt q texts place written) → place.documents ≡ 0 → texts ≡ at.passes.passed
 all_passed q texts place written at z = at.passes.all ∙ ap (λ ts. at.passes.passed ++ ts) (none_left at.rest place.documents at.left z) ∙ append-nil at.passes.passed
 
-pub answers_at : (q : Segments) (es : List (Vec ℕ Global × Doc)) (place : Place) (written old new : List ℕ) → AreKept es → IsAt q (texts_read es) place written → place.documents ≡ 0
+pub answers_at : (q : Segments) (es : List (Vec ℕ Global × Doc)) (place : Reached) (written old new : List ℕ) → AreKept es → IsAt q (texts_read es) place written → place.documents ≡ 0
     → new ≡ old ++ (number place.hits ++ drop 4 written) → AnswersQuery q (texts es) old new
 answers_at q es place written old new k at z w =
     let p = at.passes in
@@ -170,7 +170,7 @@ answers_at q es place written old new k at z w =
       appended = w ∙ ap (λ (x : List ℕ). old ++ x) bytes;
     }
 
-pub charges_at : (q : Segments) (es : List (Vec ℕ Global × Doc)) (place : Place) (written : List ℕ) (units : ℕ) → AreKept es → IsAt q (texts_read es) place written → place.documents ≡ 0
+pub charges_at : (q : Segments) (es : List (Vec ℕ Global × Doc)) (place : Reached) (written : List ℕ) (units : ℕ) → AreKept es → IsAt q (texts_read es) place written → place.documents ≡ 0
     → units ≡ budget - place.units → Charges q (texts es) units
 charges_at q es place written units k at z u =
     let all = all_passed q (texts_read es) place written at z in
@@ -186,7 +186,7 @@ written_over old out new count t w = w ∙ ap (λ (x : List ℕ). x ++ (count ++
 
 -- ---- A query that pauses
 
-pub on_way : (q : Segments) (es : List (Vec ℕ Global × Doc)) (place : Place) (written : List ℕ) (e : Evaluator) (task : QueryTask) → AreKept es → IsAt q (texts_read es) place written → 1 ≤ place.documents → query_in e ≡ q
+pub on_way : (q : Segments) (es : List (Vec ℕ Global × Doc)) (place : Reached) (written : List ℕ) (e : Evaluator) (task : QueryTask) → AreKept es → IsAt q (texts_read es) place written → 1 ≤ place.documents → query_in e ≡ q
     → IsReady (last_of place.documents (texts es)) place.units e → task.evaluator ≡ e → task.place ≡ place → task.payload.items ≡ written → IsOnWay q (texts es) task
 on_way q es place written e task k at s query ready v p w = record {
   texts = texts_read es;
@@ -266,12 +266,12 @@ step_begun q es units to k l s =
     let same : units ≡ units + 0 = omega arith in
     step_read q es units (length (texts es)) 0 budget to k (l ∙ ap (λ us. length (left_by q units us) + cut_in to) (sym all) ∙ ap (λ n. length (left_by q n (last_of (length (texts es)) (texts_read es))) + cut_in to) same) s
 
-pub few_left : (q : Segments) (es : List (Vec ℕ Global × Doc)) (place : Place) (written : List ℕ) → IsAt q (texts_read es) place written → place.documents ≤ length es
+pub few_left : (q : Segments) (es : List (Vec ℕ Global × Doc)) (place : Reached) (written : List ℕ) → IsAt q (texts_read es) place written → place.documents ≤ length es
 few_left q es place written at =
     let n : length (texts_read es) ≡ length at.passes.passed + length at.rest = ap (λ (ts : List Text). length ts) at.passes.all ∙ length-append at.passes.passed at.rest in
     omega (arith, n, at.left, length-read es)
 
-pub goes_on : (q : Segments) (es last : List (Vec ℕ Global × Doc)) (place : Place) (written : List ℕ) → last ≡ last_of place.documents es → IsAt q (texts_read es) place written
+pub goes_on : (q : Segments) (es last : List (Vec ℕ Global × Doc)) (place : Reached) (written : List ℕ) → last ≡ last_of place.documents es → IsAt q (texts_read es) place written
     → Passes q (texts_read es) (texts_read last) place.units place.hits written
 goes_on q es last place written l at =
     let p = at.passes in
@@ -280,11 +280,11 @@ goes_on q es last place written l at =
     let e : at.rest ≡ texts_read last = sym (drop-append_seam p.passed at.rest) ∙ sym (ap (λ ts. drop (length p.passed) ts) p.all) ∙ ap (λ i. drop i (texts_read es)) k ∙ sym (last_read place.documents es last l) in
     subst (λ r. Passes q (texts_read es) r place.units place.hits written) e p
 
-pub at_last : (q : Segments) (es last : List (Vec ℕ Global × Doc)) (place : Place) (written : List ℕ) → place.documents ≡ length last → Passes q (texts_read es) (texts_read last) place.units place.hits written
+pub at_last : (q : Segments) (es last : List (Vec ℕ Global × Doc)) (place : Reached) (written : List ℕ) → place.documents ≡ length last → Passes q (texts_read es) (texts_read last) place.units place.hits written
     → IsAt q (texts_read es) place written
 at_last q es last place written n p = record { rest = texts_read last; left = length-read last ∙ sym n; passes = p }
 
-pub begins_at : (q : Segments) (es : List (Vec ℕ Global × Doc)) (place : Place) (start : ℕ) (old out zeros : List ℕ) → start ≡ length old → out ≡ old ++ zeros → zeros ≡ number 0
+pub begins_at : (q : Segments) (es : List (Vec ℕ Global × Doc)) (place : Reached) (start : ℕ) (old out zeros : List ℕ) → start ≡ length old → out ≡ old ++ zeros → zeros ≡ number 0
     → place.documents ≡ length es → place.units ≡ budget → place.hits ≡ 0 → IsAt q (texts_read es) place (drop start out)
 begins_at q es place start old out zeros s o z d u h =
     let w : drop start out ≡ number 0 = ap (λ k. drop k out) s ∙ ap (λ (x : List ℕ). drop (length old) x) o ∙ drop-append_seam old zeros ∙ z in
@@ -321,14 +321,14 @@ last_next n m es it rest e l c i k =
     let next : suc (length es - n) ≡ length es - m = omega (arith, len, c, k) in
     sym (tail_drop (length es - n) es rest e (sym l ∙ i)) ∙ ap (λ j. drop j es) next
 
-pub adds_next : (q : Segments) (es it rest : List (Vec ℕ Global × Doc)) (e : Vec ℕ Global × Doc) (name : List ℕ) (place next : Place) (start : ℕ) (before after : List ℕ) → it ≡ e ∷ rest → name ≡ e.0.items
+pub adds_next : (q : Segments) (es it rest : List (Vec ℕ Global × Doc)) (e : Vec ℕ Global × Doc) (name : List ℕ) (place next : Reached) (start : ℕ) (before after : List ℕ) → it ≡ e ∷ rest → name ≡ e.0.items
     → Passes q (texts_read es) (texts_read it) place.units place.hits (drop start before) → Adds q (text_read name e.1) place next before after → AreSizes place start (length before) → AreSizes next start (length after)
     → Passes q (texts_read es) (texts_read rest) next.units next.hits (drop start after)
 adds_next q es it rest e name place next start before after i n p a s l =
     adds q (texts_read es) (texts_read rest) (text_read e.0.items e.1) place next start before after (subst (λ ds. Passes q (texts_read es) (texts_read ds) place.units place.hits (drop start before)) i p)
     (subst (λ k. Adds q (text_read k e.1) place next before after) n a) (omega (arith, s.long)) l.within
 
-pub fails_next : (q : Segments) (es it rest : List (Vec ℕ Global × Doc)) (e : Vec ℕ Global × Doc) (name : List ℕ) (place : Place) (start : ℕ) (before : List ℕ) (f : StoreFault) → it ≡ e ∷ rest → name ≡ e.0.items
+pub fails_next : (q : Segments) (es it rest : List (Vec ℕ Global × Doc)) (e : Vec ℕ Global × Doc) (name : List ℕ) (place : Reached) (start : ℕ) (before : List ℕ) (f : StoreFault) → it ≡ e ∷ rest → name ≡ e.0.items
     → Passes q (texts_read es) (texts_read it) place.units place.hits (drop start before) → AreSizes place start (length before) → FailsAt q (text_read name e.1) place.units start before f → IsFault (query_fault q 0 4 (texts_read es)) f
 fails_next q es it rest e name place start before f i n p s h =
     fails q (texts_read es) (texts_read rest) (text_read e.0.items e.1) place.units place.hits start before f (subst (λ ds. Passes q (texts_read es) (texts_read ds) place.units place.hits (drop start before)) i p) (omega (arith, s.long))

@@ -12,7 +12,7 @@ use Rattle.query_machine.specs.declared.evaluator.Evaluator.{Evaluator}
 use Rattle.query_machine.specs.declared.levels.Machine.{Machine}
 use Rattle.tenant_map.specs.Kept.{AreKept, texts}
 use Rattle.tenant_map.specs.Maps.{Documents}
-use Rattle.tenant_store.specs.declared.walk.Place.{Place}
+use Rattle.tenant_store.specs.declared.walk.Reached.{Reached}
 use Rattle.tenant_store.specs.declared.walk.Visited.{Visited}
 use Rattle.tenant_store.specs.Payloads.{Text}
 use Rattle.tenant_store.specs.TextsRead.{text_read, texts_read}
@@ -47,7 +47,7 @@ cut_is : (units share left : ℕ) (o : Option Machine) → left_on units o + sha
 cut_is units share left None s l = absurd (omega (arith, s, l))
 cut_is units share left (Some w) s l = (w, refl)
 
-pub visits_within : (q : Segments) (t : Text) (more : ℕ) (place : Place) (old new : Evaluator) (before after : List ℕ) → left_on place.units old.evaluation ≤ place.units
+pub visits_within : (q : Segments) (t : Text) (more : ℕ) (place : Reached) (old new : Evaluator) (before after : List ℕ) → left_on place.units old.evaluation ≤ place.units
     → PassesOne None q t more place old new before after → Visits (record { place = place; more = None }) q t more place old new before after
 visits_within q t more place old new before after l p =
     let s = p.1 in
@@ -59,7 +59,7 @@ visits_within q t more place old new before after l p =
       share = omega (arith, s);
     }
 
-pub visits_behind : (q : Segments) (t : Text) (more : ℕ) (place next : Place) (old new : Evaluator) (before after : List ℕ) (left : Option ℕ) → left_on place.units old.evaluation ≤ place.units
+pub visits_behind : (q : Segments) (t : Text) (more : ℕ) (place next : Reached) (old new : Evaluator) (before after : List ℕ) (left : Option ℕ) → left_on place.units old.evaluation ≤ place.units
     → PassesOne (Some next) q t more place old new before after
     → MatchOption left (more < left_on place.units old.evaluation - next.units) (λ n. n + (left_on place.units old.evaluation - next.units) ≡ more)
     → Visits (record { place = next; more = left }) q t more place old new before after
@@ -74,7 +74,7 @@ visits_behind q t more place next old new before after (Some n) l p h =
 
 -- ---- A step goes on behind a document
 
-pub goes_behind : (q : Segments) (it rest : List (Vec ℕ Global × Doc)) (e : Vec ℕ Global × Doc) (more begun left : ℕ) (next : Place) (new : Evaluator) (all : List Text) → it ≡ e ∷ rest
+pub goes_behind : (q : Segments) (it rest : List (Vec ℕ Global × Doc)) (e : Vec ℕ Global × Doc) (more begun left : ℕ) (next : Reached) (new : Evaluator) (all : List Text) → it ≡ e ∷ rest
     → left + charge (tree_of e.1) q ≡ more + begun → new.evaluation ≡ None → left_by q (more + begun) (texts_read it) ≡ all → left_by q (left + spent_on next.units new) (texts_read rest) ≡ all
 goes_behind q it rest e more begun left next new all i p r l =
     let none : left + spent_on next.units new ≡ more + begun - charge (tree_of e.1) q = rw r (omega (arith, p)) in
@@ -82,12 +82,12 @@ goes_behind q it rest e more begun left next new all i p r l =
 
 -- ---- A step ends behind a document, or within it
 
-ended : (q : Segments) (t : Text) (place next : Place) (o : Option Machine) (before after : List ℕ) (n : ℕ) → place.documents ≡ n + 1
+ended : (q : Segments) (t : Text) (place next : Reached) (o : Option Machine) (before after : List ℕ) (n : ℕ) → place.documents ≡ n + 1
     → MatchOption o (Adds q t place next before after) (λ w. (next ≡ place) × (after ≡ before)) → next.documents ≡ n + cut_of o
 ended q t place next None before after n d a = let b = a.left in omega (arith, b, d)
-ended q t place next (Some w) before after n d a = let b = ap (λ (x : Place). x.documents) a.0 in omega (arith, b, d)
+ended q t place next (Some w) before after n d a = let b = ap (λ (x : Reached). x.documents) a.0 in omega (arith, b, d)
 
-pub ends_step : (q : Segments) (it rest : List (Vec ℕ Global × Doc)) (e : Vec ℕ Global × Doc) (name : List ℕ) (to : Visited) (more : ℕ) (place : Place) (old new : Evaluator) (before after : List ℕ) (all : List Text) → it ≡ e ∷ rest
+pub ends_step : (q : Segments) (it rest : List (Vec ℕ Global × Doc)) (e : Vec ℕ Global × Doc) (name : List ℕ) (to : Visited) (more : ℕ) (place : Reached) (old new : Evaluator) (before after : List ℕ) (all : List Text) → it ≡ e ∷ rest
     → place.documents ≡ length it → left_by q (more + spent_on place.units old) (texts_read it) ≡ all → Visits to q (text_read name e.1) more place old new before after → to.more ≡ None
     → to.place.documents ≡ length all + cut_of new.evaluation
 ends_step q it rest e name to more place old new before after all i n l t z =
@@ -96,7 +96,7 @@ ends_step q it rest e name to more place old new before after all i n l t z =
     let one = ap (λ (ds : List (Vec ℕ Global × Doc)). length ds) i in
     ended q (text_read name e.1) place to.place new.evaluation before after (length all) (omega (arith, n, one, size)) t.passed
 
-pub ends_at : (q : Segments) (es it rest : List (Vec ℕ Global × Doc)) (e : Vec ℕ Global × Doc) (name : List ℕ) (place next : Place) (o : Option Machine) (start : ℕ) (before after : List ℕ) → it ≡ e ∷ rest → name ≡ e.0.items
+pub ends_at : (q : Segments) (es it rest : List (Vec ℕ Global × Doc)) (e : Vec ℕ Global × Doc) (name : List ℕ) (place next : Reached) (o : Option Machine) (start : ℕ) (before after : List ℕ) → it ≡ e ∷ rest → name ≡ e.0.items
     → place.documents ≡ length it → Passes q (texts_read es) (texts_read it) place.units place.hits (drop start before) → AreSizes place start (length before) → AreSizes next start (length after)
     → MatchOption o (Adds q (text_read name e.1) place next before after) (λ w. (next ≡ place) × (after ≡ before)) → IsAt q (texts_read es) next (drop start after)
 ends_at q es it rest e name place next None start before after i m n p s l a =
@@ -106,7 +106,7 @@ ends_at q es it rest e name place next None start before after i m n p s l a =
 ends_at q es it rest e name place next (Some w) start before after i m n p s l a =
     subst (λ x. IsAt q (texts_read es) x (drop start after)) (sym a.0) (subst (λ x. IsAt q (texts_read es) place (drop start x)) (sym a.1) (at_last q es it place (drop start before) n p))
 
-pub ends_ready : (es it rest : List (Vec ℕ Global × Doc)) (e : Vec ℕ Global × Doc) (q : Segments) (t : Text) (place next : Place) (new : Evaluator) (before after : List ℕ) → it ≡ e ∷ rest → it ≡ last_of place.documents es
+pub ends_ready : (es it rest : List (Vec ℕ Global × Doc)) (e : Vec ℕ Global × Doc) (q : Segments) (t : Text) (place next : Reached) (new : Evaluator) (before after : List ℕ) → it ≡ e ∷ rest → it ≡ last_of place.documents es
     → IsEvaluating e.1.text place.units new → MatchOption new.evaluation (Adds q t place next before after) (λ w. (next ≡ place) × (after ≡ before)) → IsReady (last_of next.documents (texts es)) next.units new
 ends_ready es it rest e q t place next new before after i l h a = by new.evaluation refl a
   where
@@ -114,7 +114,7 @@ ends_ready es it rest e q t place next new before after i l h a = by new.evaluat
     by None r a = ready_at_rest (last_of next.documents (texts es)) next.units new (rests e.1.text place.units new h r)
     by (Some w) r a =
         let first : texts (e ∷ rest) ≡ last_of place.documents (texts es) = ap (λ ds. texts ds) (sym i) ∙ last_texts place.documents es it l in
-        subst (λ (x : Place). IsReady (last_of x.documents (texts es)) x.units new) (sym a.0) (subst (λ ds. IsReady ds place.units new) first h)
+        subst (λ (x : Reached). IsReady (last_of x.documents (texts es)) x.units new) (sym a.0) (subst (λ ds. IsReady ds place.units new) first h)
 
 -- ---- The last document is passed
 

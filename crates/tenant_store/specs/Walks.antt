@@ -12,7 +12,7 @@ use Rattle.query_machine.specs.declared.evaluator.Evaluator.{Evaluator}
 use Rattle.query_machine.specs.declared.levels.Machine.{Machine}
 use Rattle.tenant_map.specs.Listings.{number}
 use Rattle.tenant_map.specs.Maps.{Documents}
-use Rattle.tenant_store.specs.declared.walk.Place.{Place}
+use Rattle.tenant_store.specs.declared.walk.Reached.{Reached}
 use Rattle.tenant_store.specs.declared.tasks.QueryTask.{QueryTask}
 use Rattle.tenant_store.specs.declared.tasks.Progress.{Progress}
 use Rattle.tenant_store.specs.declared.tasks.Progress.TheVariants.{Complete, Paused}
@@ -29,7 +29,7 @@ pub record Passes (q : Segments) (texts rest : List Text) (units count : ℕ) (w
   pub bytes : written ≡ number 0 ++ found_bytes q passed
 
 -- the query has so many texts left, and so many units and hits
-pub record IsAt (q : Segments) (texts : List Text) (place : Place) (written : List ℕ) : Type 0 where
+pub record IsAt (q : Segments) (texts : List Text) (place : Reached) (written : List ℕ) : Type 0 where
   pub rest : List Text
   pub left : length rest ≡ place.documents
   pub passes : Passes q texts rest place.units place.hits written

@@ -11,7 +11,7 @@ ghost use Rattle.tenant_store.specs.Payloads.{RefusesQuery, IsFaultOfQuery};
 ghost use Rattle.tenant_store.specs.Walks.{IsComplete, IsOnWay, IsStep, Reaches, SpendsShare, left_in, query_of, spent_on, units_left, work_left};
 
 use crate::numbers::put_number;
-use crate::walk::{Place, begin_behind, go_on};
+use crate::walk::{Reached, begin_behind, go_on};
 use json_tape::Document;
 use json_tape::laws::one_tree;
 use path_types::ValidQuery;
@@ -26,7 +26,7 @@ use tenant_map::{StoreFault, Tenant, big_endian};
 #[derive(Drop)]
 pub struct QueryTask {
     evaluator: Evaluator,
-    place: Place,
+    place: Reached,
     payload: Vec<u8>,
 }
 
@@ -120,7 +120,7 @@ impl QueryTask {
 fn pause(
     alloc: Global,
     evaluator: Evaluator,
-    place: Place,
+    place: Reached,
     start: usize,
     out: &mut Vec<u8>,
 ) -> Result<QueryTask, StoreFault>

@@ -27,7 +27,7 @@ use tenant_map::{StoreFault, big_endian};
 
 /// How far a query came.
 #[derive(Clone, Copy)]
-pub struct Place {
+pub struct Reached {
     /// The documents that are left.
     pub documents: usize,
     /// The units that are left, or were at the beginning of the document that it paused within.
@@ -84,11 +84,11 @@ fn pass(
     alloc: Global,
     name: &[u8],
     document: &Document,
-    place: Place,
+    place: Reached,
     share: u64,
     start: usize,
     out: &mut Vec<u8>,
-) -> Result<Option<Place>, StoreFault>
+) -> Result<Option<Reached>, StoreFault>
     requires some { 1 ≤ place.documents }
     requires short { length name.now < 256 }
     requires sizes { AreSizes place start (length out.old.items) }
@@ -106,7 +106,7 @@ fn pass(
         return Ok(None);
     };
     write_hits(alloc, name, document, selected.nodes.as_slice(), start, out)?;
-    Ok(Some(Place {
+    Ok(Some(Reached {
         documents: place.documents - 1,
         units: place.units - selected.charge,
         hits: place.hits + selected.nodes.len(),
@@ -116,7 +116,7 @@ fn pass(
 /// Where a document leaves a step.
 #[derive(Clone, Copy)]
 pub struct Visited {
-    pub place: Place,
+    pub place: Reached,
     /// The units that the step has left; none where it ends.
     pub more: Option<u64>,
 }
@@ -127,7 +127,7 @@ fn visit(
     alloc: Global,
     name: &[u8],
     document: &Document,
-    place: Place,
+    place: Reached,
     more: u64,
     start: usize,
     out: &mut Vec<u8>,
@@ -162,11 +162,11 @@ pub fn go_on(
     alloc: Global,
     documents: &BTreeMap<Vec<u8>, Document>,
     units: u64,
-    place: Place,
+    place: Reached,
     start: usize,
     evaluator: &mut Evaluator,
     out: &mut Vec<u8>,
-) -> Result<Place, StoreFault>
+) -> Result<Reached, StoreFault>
     requires kept { AreKept documents.now.entries }
     requires started { start ≤ length out.old.items }
     requires at { IsAt (query_in evaluator.old) (texts_read documents.now.entries) place (drop start out.old.items) }
@@ -203,7 +203,7 @@ pub fn begin_behind(
     units: u64,
     evaluator: &mut Evaluator,
     out: &mut Vec<u8>,
-) -> Result<Place, StoreFault>
+) -> Result<Reached, StoreFault>
     requires kept { AreKept documents.now.entries }
     requires rest { IsAtRest evaluator.old }
     ensures reached { IfOk result (λ to. IsAt (query_in evaluator.old) (texts_read documents.now.entries) to (drop (length out.old.items) out.new.items)) }
@@ -220,7 +220,7 @@ pub fn begin_behind(
 {
     let start = out.len();
     out.extend_from_slice(&big_endian(0))?;
-    let place = Place {
+    let place = Reached {
         documents: documents.len(),
         units: BUDGET,
         hits: 0,

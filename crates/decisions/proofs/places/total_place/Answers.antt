@@ -4,7 +4,7 @@ use Rattle.std.specs.declared.cmp.Ordering.TheVariants.{Less, Equal, Greater}
 use Rattle.path_grammar.specs.declared.ast.Op.TheVariants.{Lt, Le}
 use Rattle.path_meaning.specs.Functions.{whole_number}
 use Rattle.decisions.specs.Order.{kind, value_cmp}
-use Rattle.decisions.specs.Told.{whole}
+use Rattle.decisions.specs.Decided.{whole}
 use Rattle.decisions.proofs.Counts.{place_beside}
 use Rattle.decisions.proofs.Orders.{less_kind, greater_kind, compared_alike}
 use Rattle.decisions.proofs.places.total_place.Goals as goal

@@ -13,7 +13,7 @@ returns-in-Err-Memory c = inl (subst (λ e. RefusesKeys c.args.keys.now e) c.in-
 pub returns-in-Err-apply : goal.returns-in-Err-apply
 returns-in-Err-apply c = inr (
   accepted c.args.keys.now c.in-Ok.hub.tenants c.in-Ok.ensures.accepted,
-  stops_at c.args.keys.now c.args.events.now c.loop-event.event-index c.event-item.result (fresh c.args.keys.now) c.loop-event.hub.tenants c.apply.new.self.tenants c.args.out.now.items c.loop-event.out.items c.apply.new.out.items c.loop-event.hub.sessions
+  stops_at c.tenants_are_apart.ensures c.args.keys.now c.args.events.now c.loop-event.event-index c.event-item.result (fresh c.args.keys.now) c.loop-event.hub.tenants c.apply.new.self.tenants c.args.out.now.items c.loop-event.out.items c.apply.new.out.items c.loop-event.hub.sessions
       c.loop-event-test.true c.event-item.is refl c.loop-event.invariant c.in-Err-apply.ensures.some,
 )
 
@@ -22,4 +22,4 @@ loop-event-preserved c = so_far_more c.args.events.now c.loop-event.event-index 
     c.loop-event-test.true c.event-item.is c.loop-event.invariant c.in-Ok-apply.ensures.ok
 
 pub returns : goal.returns
-returns c = (accepted c.args.keys.now c.in-Ok.hub.tenants c.in-Ok.ensures.accepted, so_far_all c.args.keys.now c.args.events.now c.loop-event.event-index (fresh c.args.keys.now) c.loop-event.hub.tenants c.args.out.now.items c.loop-event.out.items c.loop-event.hub.sessions c.loop-event-test.false refl c.loop-event.invariant)
+returns c = (accepted c.args.keys.now c.in-Ok.hub.tenants c.in-Ok.ensures.accepted, so_far_all c.tenants_are_apart.ensures c.args.keys.now c.args.events.now c.loop-event.event-index (fresh c.args.keys.now) c.loop-event.hub.tenants c.args.out.now.items c.loop-event.out.items c.loop-event.hub.sessions c.loop-event-test.false refl c.loop-event.invariant)

@@ -3,7 +3,7 @@ use Rattle.wire_frames.specs.Frames.{front}
 use Rattle.wire_frames.specs.NextFrame.{lent_as}
 use Rattle.path_hub.proofs.Calls.{answered, taken_by}
 use Rattle.path_hub.proofs.UnderWay.{first_charge}
-use Rattle.path_hub.specs.declared.tasks.Share.TheVariants as share
+use Rattle.path_hub.specs.declared.tasks.Advance.TheVariants as share
 use Rattle.path_hub.proofs.Spending.{first_spends}
 use Rattle.path_hub.proofs.sharing.answer_some.Goals as goal
 

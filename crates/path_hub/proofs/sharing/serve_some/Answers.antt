@@ -24,7 +24,7 @@ pub share_request-requires-clause-on_way : goal.share_request-requires-clause-on
 share_request-requires-clause-on_way c = read_on_way c.args.tenants.now c.args.tasks.now c.read_some.new.tasks c.read_some.ensures.same c.requires.on_way
 
 pub share_request-requires-clause-free : goal.share_request-requires-clause-free
-share_request-requires-clause-free c = held_behind c.args.work.conn c.args.body.now c.args.tenants.now c.in-Ok.request c.args.tasks.now c.read_some.new.tasks c.in-Ok.ensures.placed c.read_some.ensures.same c.requires.free
+share_request-requires-clause-free c = held_behind c.places_are_served.ensures c.args.work.conn c.args.body.now c.args.tenants.now c.in-Ok.request c.args.tasks.now c.read_some.new.tasks c.in-Ok.ensures.placed c.read_some.ensures.same c.requires.free
 
 pub returns-in-Over-clause-shares : goal.returns-in-Over-clause-shares
 returns-in-Over-clause-shares c =

@@ -1,7 +1,7 @@
 use Rattle.std.proofs.Common.{◌≡◌, ◌∙◌, ap, sym, refl, arith}
 use Rattle.std.proofs.lemmas.Result.{err_from_is_err_and}
 use Rattle.json_tape.specs.Document.{node_at}
-use Rattle.node_lists.proofs.Following.{one_unit}
+use Rattle.query_machine.proofs.Charges.{one_unit}
 use Rattle.path_grammar.specs.Tree as tree
 use Rattle.path_grammar.specs.Tree.{OneSegment}
 use Rattle.path_meaning.specs.Links.{link_selector}

@@ -17,8 +17,8 @@ found_in-found-requires c =
     let e = ends_above c.args.doc.now c.args.plan.now c.args.units (rest_of c.args.doc.now c.args.plan.now m) m c.pop.new.self.items c.in-Some.below (rw c.in-Some.is at c.pop.ensures.items) c.requires.ended c.requires.on_way in
     rw c.deref.ensures.value e.held.inside
 
-pub keep-requires-clause-found : goal.keep-requires-clause-found
-keep-requires-clause-found c =
+pub keep_found-requires-clause-found : goal.keep_found-requires-clause-found
+keep_found-requires-clause-found c =
     let m = c.args.machine.now in
     let e = ends_above c.args.doc.now c.args.plan.now c.args.units (rest_of c.args.doc.now c.args.plan.now m) m c.pop.new.self.items c.in-Some.below (rw c.in-Some.is at c.pop.ensures.items) c.requires.ended c.requires.on_way in
     found_above c.args.doc.now c.args.plan.now m.origin m.track.out.items m.state.meter.left c.found_in-found.result e.held e.paid
@@ -29,7 +29,7 @@ returns-clause-moved c =
     let m = c.args.machine.now in
     let e = ends_above c.args.doc.now c.args.plan.now c.args.units (rest_of c.args.doc.now c.args.plan.now m) m c.pop.new.self.items c.in-Some.below (rw c.in-Some.is at c.pop.ensures.items) c.requires.ended c.requires.on_way in
     let k = c.requires.on_way.kept in
-    record { stack = e.below; kept = (right_again c.args.doc.now (claims_of c.args.plan.now.stages.items) m.state.slots.len c.keep.new.slots m.state.slots.items c.keep.ensures k.0, k.1, k.2, k.3) }
+    record { stack = e.below; kept = (right_again c.args.doc.now (claims_of c.args.plan.now.stages.items) m.state.slots.len c.keep_found.new.slots m.state.slots.items c.keep_found.ensures k.0, k.1, k.2, k.3) }
 
 pub returns-clause-left : goal.returns-clause-left
 returns-clause-left c =

@@ -4,7 +4,7 @@ use Rattle.json_tape.specs.Document.{node_at}
 use Rattle.node_lists.specs.Charge.{charge_from}
 use Rattle.node_lists.specs.Evaluation.{selected_by}
 use Rattle.node_lists.specs.Links.{link_selector}
-use Rattle.node_lists.proofs.Following.{refuses_from}
+use Rattle.query_machine.proofs.Charges.{refuses_from}
 use Rattle.query_machine.specs.Stacks.{after, segments_in}
 use Rattle.query_machine.proofs.Stacks.{in_turn, link_costs, link_followed, segment_total}
 use Rattle.query_machine.proofs.placing.followed_on.Goals as goal

@@ -7,7 +7,7 @@ use Rattle.query_machine.proofs.visits.found_at.Goals as goal
 pub returns-then-is_none-clause-found : goal.returns-then-is_none-clause-found
 returns-then-is_none-clause-found c =
     let d = c.args.doc.now in
-    passed_leaf d c.args.stage.now c.args.n.0 (childless d c.first_child.result (children (node_at d c.args.n.0)) c.is_none.result (search rules) c.if-is_none.true c.first_child.ensures.nodes)
+    passed_leaf d c.args.stage.now c.args.n.0 c.selectors_pay_in_parts.ensures (childless d c.first_child.result (children (node_at d c.args.n.0)) c.is_none.result (search rules) c.if-is_none.true c.first_child.ensures.nodes)
 
 pub returns-in-None-step-clause-found : goal.returns-in-None-step-clause-found
 returns-in-None-step-clause-found c =

@@ -84,7 +84,7 @@ conditions-loop-operand-preserved t c =
 pub parts-loop-number-preserved : goal.parts-loop-number-preserved
 parts-loop-number-preserved t c = record {
   same = rw c.in_ok-push.ensures.items (parts_more c.args.is_any c.args.numbers.now c.args.operands.now c.loop-number.number c.loop-number.made.items c.in_ok-one.one c.loop-number.invariant.same c.in_ok-one.ensures.same);
-  numbered = rw c.in_ok-push.ensures.items (numbered_push condition_view c.loop-number.made.items c.in_ok-one.one c.args.next.now c.loop-number.next c.part.new.next c.loop-number.invariant.numbered c.in_ok-one.ensures.numbered);
+  numbered = rw c.in_ok-push.ensures.items (numbered_push condition_view c.loop-number.made.items c.in_ok-one.one c.args.next.now c.loop-number.next c.group_part.new.next c.loop-number.invariant.numbered c.in_ok-one.ensures.numbered);
 }
 
 pub parts-returns-clause-same : goal.parts-returns-clause-same

@@ -1,7 +1,7 @@
 use Rattle.std.proofs.Common.{◌≡◌, ◌&&◌, drop, map}
 use Rattle.path_grammar.specs.Tree.{arguments_of}
 use Rattle.path_grammar.specs.View.{argument_view}
-use Rattle.decisions.specs.Told.{are_free}
+use Rattle.decisions.specs.Decided.{are_free}
 use Rattle.query_plan.proofs.told.+free_calls.Given as goal
 
 abbrev pub invariant-are_free-loop-argument : goal.invariant-are_free-loop-argument

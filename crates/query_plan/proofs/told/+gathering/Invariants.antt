@@ -4,7 +4,7 @@ use Rattle.path_grammar.specs.Tree.{exprs_of}
 use Rattle.path_grammar.specs.View.{expr_view}
 use Rattle.path_types.specs.Validity.{are_valid_exprs}
 use Rattle.decisions.specs.Views.{constant_view}
-use Rattle.decisions.specs.Told.{all_literals}
+use Rattle.decisions.specs.Decided.{all_literals}
 use Rattle.query_plan.proofs.told.+gathering.Given as goal
 
 abbrev pub invariant-gather_all-loop-operand : goal.invariant-gather_all-loop-operand

@@ -2,7 +2,7 @@ use Rattle.std.proofs.Common.{◌≡◌, ◌++◌, drop, map}
 use Rattle.path_grammar.specs.Tree.{arguments_of}
 use Rattle.path_grammar.specs.View.{argument_view}
 use Rattle.decisions.specs.Views.{constant_view}
-use Rattle.decisions.specs.Told.{lengths}
+use Rattle.decisions.specs.Decided.{lengths}
 use Rattle.query_plan.proofs.told.gather_arguments.Given as goal
 
 abbrev pub invariant-loop-argument : goal.invariant-loop-argument

@@ -5,7 +5,7 @@ use Rattle.path_grammar.specs.View.{expr_view}
 use Rattle.path_types.specs.Validity.{are_valid_exprs}
 use Rattle.condition_reader.specs.Turns.{dealt}
 use Rattle.decisions.specs.Views.{constant_view}
-use Rattle.decisions.specs.Told.{are_told, all_literals}
+use Rattle.decisions.specs.Decided.{are_told, all_literals}
 use Rattle.query_plan.proofs.told.gather_group.Given as goal
 
 abbrev pub invariant-loop-i : goal.invariant-loop-i

@@ -3,7 +3,7 @@ use Rattle.path_grammar.specs.Tree.{exprs_of}
 use Rattle.path_grammar.specs.View.{expr_view}
 use Rattle.condition_reader.specs.Turns.{dealt}
 use Rattle.decisions.specs.Views.{constant_view}
-use Rattle.decisions.specs.Told.{all_literals}
+use Rattle.decisions.specs.Decided.{all_literals}
 use Rattle.query_plan.proofs.Scales.{on_scale}
 use Rattle.query_plan.proofs.told.scale_of.Goals as goal
 

@@ -15,6 +15,6 @@ returns c =
     let side = (operand_view c.args.operand.now).tree in
     let t = test_view c.args.decision.now in
     let some : 0 < c.uses.result = (let k = c.if-uses-eq0.false in omega arith) in
-    let part = side_within root n side t c.uses.result c.uses.ensures some in
+    let part = side_within c.means_conditions.ensures root n side t c.uses.result c.uses.ensures some in
     awaits_behind d (claims_of c.args.plan.now.stages.items) n c.of_side.result.query 0 c.of_side.result.paid c.of_side.result.paid (charge_side root side n) (charge_expr root (expr_of side t) n)
     (omega (arith, part)) (omega arith) c.of_side.ensures

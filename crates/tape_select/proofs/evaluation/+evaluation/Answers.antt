@@ -1,6 +1,6 @@
 use Rattle.std.proofs.Common.{rules, sym, ◌∙◌, ◌++◌, ◌+◌, ◌-◌, ◌*◌, ◌<◌, ◌≡◌, [], ◌∷◌, arith, ap, refl, length, map, drop}
 use Rattle.std.proofs.lemmas.Grind.{common_steps}
-use Rattle.std.proofs.lemmas.List.{drop_all}
+use Rattle.std.proofs.lemmas.List.{append-nil, drop_all}
 use Rattle.std.specs.Prelude.{flat_map, codes}
 use Rattle.std.specs.Prelude.{filter as keep}
 use Rattle.std.proofs.lemmas.Result.{err_from_is_err_and}
@@ -11,23 +11,17 @@ use Rattle.path_grammar.specs.Tree.{OneSegment, selectors_of, filter}
 use Rattle.decisions.specs.Truth.{truth}
 use Rattle.decisions.specs.Views.{test_view}
 use Rattle.tape_values.specs.Functions.{length_value}
-use Rattle.node_lists.specs.Evaluation.{selected, selected_by, holds}
+use Rattle.node_lists.specs.Evaluation.{evaluated, selected, selected_by, holds}
 use Rattle.node_lists.specs.Nodelists.{nodes_of}
 use Rattle.node_lists.specs.Charge.{total_of, charge_from, charge_expr}
 use Rattle.node_lists.specs.Extra.{extra_in, nodes_from, charge_at, nodes_after, charge_after}
 use Rattle.query_plan.specs.Planned.{look, as_argument, calling, claims_of, query_of, path_of, trees, condition_view, operand_view, selection_view, stage_view, With, condition_step, operand_step, selection_step, nested_step, stage_step}
 use Rattle.node_lists.specs.Links.{links_view}
 use Rattle.query_plan.specs.declared.plan.Condition.TheFolds.{fold_out-Operand, fold_out-Selection, the_lemmas}
-use Rattle.tape_select.proofs.Filtering.{stage_claimed, evaluated_step, charge_step, adds_paid, more_of, staying, staying_charge, descending, descending_charge, filter_charge, keep_more, keep_not, leaf_holds, leaf_costs, finds_linked, one_stage, finds_one, joined_more, paid_more, only_one, selections_more, extras_more, or_false, and_true, somes, alls}
-use Rattle.node_lists.proofs.Following.{refuses_from, nothing_from_nothing, nothing_for_nothing}
-use Rattle.query_plan.proofs.Operands.{argued_charge, length_called}
-use Rattle.query_plan.proofs.Links.{links_charged, links_charged_first}
-use Rattle.tape_select.proofs.Found.{found_through}
-use Rattle.node_lists.proofs.Adding.{append_nil, drawn, drawn_inside, flat_more, sum_more}
-use Rattle.query_plan.proofs.Claims.{selection_claims}
-use Rattle.node_lists.proofs.Naming.{adds_named, adds_wild}
-use Rattle.tape_select.proofs.Paid.{free, paid, refused_first, refused_then, finds_some, finds_all}
-use Rattle.query_plan.proofs.LoneLinks.{stage_is}
+use Rattle.tape_select.proofs.Filtering.{flat_more, sum_more, drawn, drawn_inside, adds_named, adds_wild, stage_claimed, evaluated_step, charge_step, adds_paid, more_of, staying, staying_charge, descending, descending_charge, filter_charge, keep_more, keep_not, leaf_holds, finds_linked, one_stage, finds_one, joined_more, paid_more, only_one, selections_more, extras_more, or_false, and_true, somes, alls}
+use Rattle.tape_select.proofs.Found.{found_through, nothing_from_nothing, nothing_for_nothing}
+use Rattle.tape_select.proofs.Parts.{stage_is, selection_claims, argued_charge, length_called}
+use Rattle.tape_select.proofs.Paid.{refuses_from, free, paid, refused_first, refused_then, finds_some, finds_all}
 use Rattle.tape_select.proofs.Telling.{kept, recalled, charged_nothing}
 use Rattle.tape_select.proofs.evaluation.+evaluation.Goals as goal
 
@@ -103,7 +97,7 @@ pub after_each-returns-clause-found : goal.after_each-returns-clause-found
 after_each-returns-clause-found t c =
     let none = drop_all c.loop-n.n-index c.args.input.now (let n = c.loop-n-test.false in omega arith) in
     let paid = rw none at c.loop-n.invariant.paid in
-    (record { same = sym (append_nil (nodes_of c.args.doc.now c.loop-n.out.items)) ∙ rw none at c.loop-n.invariant.same; inside = c.loop-n.invariant.sound }, omega (arith, paid))
+    (record { same = sym (append-nil (nodes_of c.args.doc.now c.loop-n.out.items)) ∙ rw none at c.loop-n.invariant.same; inside = c.loop-n.invariant.sound }, omega (arith, paid))
 
 pub selected_from-loop-selection-preserved : goal.selected_from-loop-selection-preserved
 selected_from-loop-selection-preserved t c =
@@ -133,7 +127,7 @@ pub selected_from-returns-clause-added : goal.selected_from-returns-clause-added
 selected_from-returns-clause-added t c =
     let none = drop_all c.loop-selection.selection-index c.args.selections.now (let n = c.loop-selection-test.false in omega arith) in
     let paid = rw none at c.loop-selection.invariant.paid in
-    (record { same = sym (append_nil (nodes_of c.args.doc.now c.loop-selection.out.items)) ∙ rw none at c.loop-selection.invariant.same; inside = c.loop-selection.invariant.sound }, omega (arith, paid))
+    (record { same = sym (append-nil (nodes_of c.args.doc.now c.loop-selection.out.items)) ∙ rw none at c.loop-selection.invariant.same; inside = c.loop-selection.invariant.sound }, omega (arith, paid))
 
 pub some_hold-returns-clause-found : goal.some_hold-returns-clause-found
 some_hold-returns-clause-found t c =
@@ -208,7 +202,7 @@ from_node-returns-in_ok-spend-clause-added t c =
     let got = rw c.deref-else-stage.ensures.value at c.selected_from.ensures.added in
     adds_paid d c.selected_from.result c.selected_from.new.out.items (old ++ selected r ss n) (old ++ nodes_from r (stage_view s).tree n) (extra_in r ss n) (charge_at r (stage_view s).tree n)
     c.spend.new.self.left c.args.state.now.meter.left c.selected_from.new.state.meter.left (length s.selections.items) (rw (← units) c.in_ok-spend.ensures)
-    (staying_charge r n s c.if-stage.false) (more_of old (selected r ss n) (nodes_from r (stage_view s).tree n) (staying r n s c.if-stage.false)) got
+    (staying_charge c.selectors_pay_in_parts.ensures r n s c.if-stage.false) (more_of old (selected r ss n) (nodes_from r (stage_view s).tree n) (staying r n s c.if-stage.false)) got
 
 pub from_node-returns-in_ok-spend_each-clause-added : goal.from_node-returns-in_ok-spend_each-clause-added
 from_node-returns-in_ok-spend_each-clause-added t c =
@@ -219,11 +213,11 @@ from_node-returns-in_ok-spend_each-clause-added t c =
     let old = nodes_of d c.args.out.now.items in
     let ss = selectors_of (trees (map selection_view s.selections.items)) in
     let units = c.selector_total-selectors.ensures in
-    let all = c.visit_total.ensures in
+    let all = c.from.ensures ∙ c.visit_total.ensures in
     let got = rw c.deref.ensures.value at c.visited.ensures.added in
     adds_paid d c.visited.result c.visited.new.out.items (old ++ flat_map (selected r ss) (visit n)) (old ++ nodes_from r (stage_view s).tree n) (total_of (extra_in r ss) (visit n)) (charge_at r (stage_view s).tree n)
     c.spend_each.new.self.left c.args.state.now.meter.left c.visited.new.state.meter.left (length (visit n) * length s.selections.items) (rw (← units, ← all) c.in_ok-spend_each.ensures)
-    (descending_charge r n s c.if-stage.true) (more_of old (flat_map (selected r ss) (visit n)) (nodes_from r (stage_view s).tree n) (descending r n s c.if-stage.true)) got
+    (descending_charge c.selectors_pay_in_parts.ensures r n s c.if-stage.true) (more_of old (flat_map (selected r ss) (visit n)) (nodes_from r (stage_view s).tree n) (descending r n s c.if-stage.true)) got
 
 pub from_node-returns-in_err-spend-clause-added : goal.from_node-returns-in_err-spend-clause-added
 from_node-returns-in_err-spend-clause-added t c =
@@ -232,7 +226,7 @@ from_node-returns-in_err-spend-clause-added t c =
     let n = node_at d c.args.n.0 in
     let s = c.args.stage.now in
     let units = c.selector_total-selectors.ensures in
-    let charged = staying_charge r n s c.if-stage.false in
+    let charged = staying_charge c.selectors_pay_in_parts.ensures r n s c.if-stage.false in
     let p = err_from_is_err_and c.from_residual-in_err-spend.result c.from_residual-in_err-spend.ensures.1 in
     rw (p.1, p.2)
     (refuses_from c.selector_total-selectors.result c.args.state.now.meter.left (charge_at r (stage_view s).tree n) c.args.state.now.meter.left c.in_err-spend.field-0.0
@@ -245,11 +239,11 @@ from_node-returns-in_err-spend_each-clause-added t c =
     let n = node_at d c.args.n.0 in
     let s = c.args.stage.now in
     let units = c.selector_total-selectors.ensures in
-    let all = c.visit_total.ensures in
-    let charged = rw (← units, ← all) at (descending_charge r n s c.if-stage.true) in
+    let all = c.from.ensures ∙ c.visit_total.ensures in
+    let charged = rw (← units, ← all) at (descending_charge c.selectors_pay_in_parts.ensures r n s c.if-stage.true) in
     let p = err_from_is_err_and c.from_residual.result c.from_residual.ensures.1 in
     rw (p.1, p.2)
-    (refuses_from (c.visit_total.result * c.selector_total-selectors.result) c.args.state.now.meter.left (charge_at r (stage_view s).tree n) c.args.state.now.meter.left c.in_err-spend_each.field-0.0
+    (refuses_from (c.from.result * c.selector_total-selectors.result) c.args.state.now.meter.left (charge_at r (stage_view s).tree n) c.args.state.now.meter.left c.in_err-spend_each.field-0.0
     (λ h. omega (arith, charged, h)) c.in_err-spend_each.ensures)
 
 pub selected_within-returns-in-None-clause-added : goal.selected_within-returns-in-None-clause-added
@@ -258,8 +252,8 @@ selected_within-returns-in-None-clause-added t c =
     let r = node_at d 0 in
     let n = node_at d c.args.n.0 in
     let ss = selectors_of (trees (map selection_view c.args.selections.now)) in
-    let costs = leaf_costs r ss n c.in-None.ensures.nodes in
-    (leaf_holds r ss d c.args.out.now.items n c.requires.sound c.in-None.ensures.nodes, omega (arith, costs))
+    let costs = c.selectors_pay_in_parts.ensures.free r ss n (sym c.in-None.ensures.nodes) in
+    (leaf_holds c.selectors_pay_in_parts.ensures r ss d c.args.out.now.items n c.requires.sound c.in-None.ensures.nodes, omega (arith, costs))
 
 pub filtered-loop-child-preserved-in-Continue-branch-3 : goal.filtered-loop-child-preserved-in-Continue-branch-3
 filtered-loop-child-preserved-in-Continue-branch-3 t c =
@@ -323,7 +317,7 @@ pub found_behind-returns-in_err-first-clause-found : goal.found_behind-returns-i
 found_behind-returns-in_err-first-clause-found t c =
     let r = node_at c.args.doc.now 0 in
     let n = node_at c.args.doc.now c.args.n.0 ∷ [] in
-    let all = links_charged r c.args.stages.now c.args.links.now n in
+    let all = c.follows_links.ensures.paid r c.args.stages.now c.args.links.now (node_at c.args.doc.now c.args.n.0) (evaluated r (links_view c.args.links.now) n) refl in
     let p = err_from_is_err_and c.from_residual.result c.from_residual.ensures.1 in
     rw (p.1, p.2)
     (refuses_from (charge_from r (links_view c.args.links.now) n) c.args.state.now.meter.left (charge_from r (path_of c.args.links.now c.args.stages.now) n) c.args.state.now.meter.left c.in_err-first.field-0.0
@@ -334,11 +328,11 @@ found_behind-returns-in_default-clause-found t c =
     let d = c.args.doc.now in
     let r = node_at d 0 in
     let got = rw c.in_default.is at c.in_ok-first.ensures in
-    let all = links_charged_first r c.args.stages.now c.args.links.now (node_at d c.args.n.0) [] got.0 in
+    let all = c.follows_links.ensures.paid r c.args.stages.now c.args.links.now (node_at d c.args.n.0) [] got.0 in
     let free = nothing_for_nothing r (query_of c.args.stages.now) in
     let paid = got.2 in
     let left = c.found_in.ensures.charge in (
-      found_through d c.args.links.now c.args.stages.now (node_at d c.args.n.0) [] [] c.found_in.result got.0 (sym (nothing_from_nothing r (query_of c.args.stages.now)))
+      found_through c.follows_links.ensures d c.args.links.now c.args.stages.now (node_at d c.args.n.0) [] [] c.found_in.result got.0 (sym (nothing_from_nothing r (query_of c.args.stages.now)))
           c.found_in.ensures.value c.found_in.ensures.inside c.found_in.ensures.total (omega (arith, all, free, paid, left)),
       omega (arith, all, free, paid),
     )
@@ -348,7 +342,7 @@ found_behind-returns-in_err-nodes-clause-found t c =
     let d = c.args.doc.now in
     let r = node_at d 0 in
     let got = rw c.in-Some.is at c.in_ok-first.ensures in
-    let all = links_charged_first r c.args.stages.now c.args.links.now (node_at d c.args.n.0) (node_at d c.in-Some.first.0 ∷ []) got.0 in
+    let all = c.follows_links.ensures.paid r c.args.stages.now c.args.links.now (node_at d c.args.n.0) (node_at d c.in-Some.first.0 ∷ []) got.0 in
     let paid = got.2 in
     let p = err_from_is_err_and c.from_residual-in_err-nodes.result c.from_residual-in_err-nodes.ensures.1 in
     rw (p.1, p.2)
@@ -361,12 +355,12 @@ found_behind-returns-clause-found t c =
     let r = node_at d 0 in
     let got = rw c.in-Some.is at c.in_ok-first.ensures in
     let first = node_at d c.in-Some.first.0 ∷ [] in
-    let all = links_charged_first r c.args.stages.now c.args.links.now (node_at d c.args.n.0) first got.0 in
+    let all = c.follows_links.ensures.paid r c.args.stages.now c.args.links.now (node_at d c.args.n.0) first got.0 in
     let paid = got.2 in
     let found = rw (← c.deref.ensures.value) at (c.in_ok-nodes.ensures).found in
     let spent = found.1 in
     let left = c.found_in-2.ensures.charge in (
-      found_through d c.args.links.now c.args.stages.now (node_at d c.args.n.0) first c.deref.result.now c.found_in-2.result got.0 found.0.same
+      found_through c.follows_links.ensures d c.args.links.now c.args.stages.now (node_at d c.args.n.0) first c.deref.result.now c.found_in-2.result got.0 found.0.same
           c.found_in-2.ensures.value c.found_in-2.ensures.inside c.found_in-2.ensures.total (omega (arith, all, paid, spent, left)),
       omega (arith, all, paid, spent),
     )
@@ -374,7 +368,7 @@ found_behind-returns-clause-found t c =
 pub decided-returns-then-times-eq0-clause-found : goal.decided-returns-then-times-eq0-clause-found
 decided-returns-then-times-eq0-clause-found t c =
     let d = c.args.doc.now in
-    free c.tells_as_compared.ensures (node_at d 0) (node_at d c.args.child.0) (operand_view c.args.operand.now).tree (test_view c.args.decision.now) c.related-relation.result c.related-relation.ensures.related c.args.state.now.meter.left c.decision_holds.result
+    free c.means_conditions.ensures c.tells_as_compared.ensures (node_at d 0) (node_at d c.args.child.0) (operand_view c.args.operand.now).tree (test_view c.args.decision.now) c.related-relation.result c.related-relation.ensures.related c.args.state.now.meter.left c.decision_holds.result
     (sym c.uses-times.ensures ∙ c.if-times-eq0.true) c.decision_holds.ensures
 
 pub decided-returns-in_err-side-clause-found : goal.decided-returns-in_err-side-clause-found
@@ -383,7 +377,7 @@ decided-returns-in_err-side-clause-found t c =
     let some : 0 < c.uses-times.result = (let n = c.if-times-eq0.false in omega arith) in
     let p = err_from_is_err_and c.from_residual.result c.from_residual.ensures.1 in
     rw (p.1, p.2)
-    (refused_first c.tells_as_compared.ensures (node_at d 0) (node_at d c.args.child.0) (operand_view c.args.operand.now).tree (test_view c.args.decision.now) c.args.state.now.meter.left c.uses-times.result c.in_err-side.field-0.0
+    (refused_first c.means_conditions.ensures c.tells_as_compared.ensures (node_at d 0) (node_at d c.args.child.0) (operand_view c.args.operand.now).tree (test_view c.args.decision.now) c.args.state.now.meter.left c.uses-times.result c.in_err-side.field-0.0
     c.uses-times.ensures some (c.in_err-side.ensures).found)
 
 pub decided-returns-in_err-spend_each-clause-found : goal.decided-returns-in_err-spend_each-clause-found
@@ -395,7 +389,7 @@ decided-returns-in_err-spend_each-clause-found t c =
     let parted = ((c.in_ok-side.ensures).found).2 in
     let p = err_from_is_err_and c.from_residual-in_err-spend_each.result c.from_residual-in_err-spend_each.ensures.1 in
     rw (p.1, p.2)
-    (refused_then c.tells_as_compared.ensures (node_at d 0) (node_at d c.args.child.0) (operand_view c.args.operand.now).tree (test_view c.args.decision.now) old left c.uses-times.result (old - left) c.in_err-spend_each.field-0.0
+    (refused_then c.means_conditions.ensures c.tells_as_compared.ensures (node_at d 0) (node_at d c.args.child.0) (operand_view c.args.operand.now).tree (test_view c.args.decision.now) old left c.uses-times.result (old - left) c.in_err-spend_each.field-0.0
     c.uses-times.ensures some parted (omega arith) (rw c.from.ensures at c.in_err-spend_each.ensures))
 
 pub decided-returns-clause-found : goal.decided-returns-clause-found
@@ -407,29 +401,29 @@ decided-returns-clause-found t c =
     let some : 0 < c.uses-times.result = (let n = c.if-times-eq0.false in omega arith) in
     let found = (c.in_ok-side.ensures).found in
     let parted = found.2 in
-    paid c.tells_as_compared.ensures (node_at d 0) (node_at d c.args.child.0) (operand_view c.args.operand.now).tree e c.related-relation.result c.related-relation.ensures.related old left c.spend_each.new.self.left c.uses-times.result (old - left) c.decision_holds-2.result
+    paid c.means_conditions.ensures c.tells_as_compared.ensures (node_at d 0) (node_at d c.args.child.0) (operand_view c.args.operand.now).tree e c.related-relation.result c.related-relation.ensures.related old left c.spend_each.new.self.left c.uses-times.result (old - left) c.decision_holds-2.result
     c.uses-times.ensures some parted (omega arith) (rw c.from.ensures at c.in_ok-spend_each.ensures) (c.decision_holds-2.ensures ∙ ap (λ v. truth v c.related-relation.result e) found.0)
 
 pub joined_hold-returns-then-is_any-clause-found : goal.joined_hold-returns-then-is_any-clause-found
 joined_hold-returns-then-is_any-clause-found t c =
     let d = c.args.doc.now in
-    finds_some (node_at d 0) (node_at d c.args.child.0) c.some_hold.result c.args.is_any c.args.numbers.now (trees (map condition_view c.args.parts.now)) c.args.state.now.meter.left c.some_hold.new.state.meter.left c.if-is_any.true c.some_hold.ensures.found
+    finds_some c.means_conditions.ensures (node_at d 0) (node_at d c.args.child.0) c.some_hold.result c.args.is_any c.args.numbers.now (trees (map condition_view c.args.parts.now)) c.args.state.now.meter.left c.some_hold.new.state.meter.left c.if-is_any.true c.some_hold.ensures.found
 
 pub joined_hold-returns-clause-found : goal.joined_hold-returns-clause-found
 joined_hold-returns-clause-found t c =
     let d = c.args.doc.now in
-    finds_all (node_at d 0) (node_at d c.args.child.0) c.all_hold.result c.args.is_any c.args.numbers.now (trees (map condition_view c.args.parts.now)) c.args.state.now.meter.left c.all_hold.new.state.meter.left c.if-is_any.false c.all_hold.ensures.found
+    finds_all c.means_conditions.ensures (node_at d 0) (node_at d c.args.child.0) c.all_hold.result c.args.is_any c.args.numbers.now (trees (map condition_view c.args.parts.now)) c.args.state.now.meter.left c.all_hold.new.state.meter.left c.if-is_any.false c.all_hold.ensures.found
 
-pub remembered-returns-in-Some-known-clause-found : goal.remembered-returns-in-Some-known-clause-found
-remembered-returns-in-Some-known-clause-found t c =
+pub remembered-returns-in-Some-known_truth-clause-found : goal.remembered-returns-in-Some-known_truth-clause-found
+remembered-returns-in-Some-known_truth-clause-found t c =
     let d = c.args.doc.now in
     let e = (condition_view c.args.condition.now).tree in
     let n = node_at d c.args.child.0 in
     let nothing = charged_nothing (node_at d 0) n c.args.scale.now e c.requires.told in
-    (sym (recalled d (look (claims_of c.args.plan.now.stages.items) c.args.slot) c.args.scale.now e n c.in-Some.cell c.in-Some-known.held c.requires.mine (c.in-Some.ensures).cell c.in-Some-known.ensures), omega (arith, nothing))
+    (sym (recalled d (look (claims_of c.args.plan.now.stages.items) c.args.slot) c.args.scale.now e n c.in-Some.cell c.in-Some-known_truth.held c.requires.mine (c.in-Some.ensures).cell c.in-Some-known_truth.ensures), omega (arith, nothing))
 
-pub remembered-keep-requires-clause-held : goal.remembered-keep-requires-clause-held
-remembered-keep-requires-clause-held t c =
+pub remembered-keep_truth-requires-clause-held : goal.remembered-keep_truth-requires-clause-held
+remembered-keep_truth-requires-clause-held t c =
     let d = c.args.doc.now in
     kept c.tells_as_compared.ensures c.tells_by_marks.ensures d (look (claims_of c.args.plan.now.stages.items) c.args.slot) c.args.scale.now (condition_view c.args.condition.now).tree (node_at d c.args.child.0)
     c.in-Some.cell c.in_ok-held.held c.requires.mine c.requires.told (c.in-Some.ensures).cell (c.in_ok-held.ensures).found.0

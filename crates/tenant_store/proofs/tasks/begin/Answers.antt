@@ -4,7 +4,7 @@ use Rattle.path_grammar.specs.View.{query_view}
 use Rattle.query_machine.specs.declared.evaluator.Evaluator.{Evaluator}
 use Rattle.tape_select.specs.Budget.{budget}
 use Rattle.tenant_map.specs.Listings.{number}
-use Rattle.tenant_store.specs.declared.walk.Place.{Place}
+use Rattle.tenant_store.specs.declared.walk.Reached.{Reached}
 use Rattle.tenant_store.specs.TextsRead.{texts_read}
 use Rattle.tenant_store.specs.Walks.{cut_of}
 use Rattle.tenant_store.proofs.Walking.{names_fault}
@@ -37,7 +37,7 @@ pub returns-then-place-gt0-clause-step : goal.returns-then-place-gt0-clause-step
 returns-then-place-gt0-clause-step c =
     let taken = c.in_ok-task-in-Ok.ensures.taken in
     let e = c.in-Ok.ensures in
-    let documents = ap (λ (p : Place). p.documents) taken.1 in
+    let documents = ap (λ (p : Reached). p.documents) taken.1 in
     let cut = ap (λ (v : Evaluator). cut_of v.evaluation) taken.0 in
     step_begun (query_view c.args.query.now) c.args.documents.now.entries c.args.units _ c.requires (documents ∙ rw (c.in_ok-evaluator.ensures.query, ← cut) at e.step) (rw (taken.0, taken.1) (e.spent (omega (arith, c.if-place-gt0.true))))
 

@@ -39,26 +39,26 @@ pub returns-in_err-query-clause-unchanged : goal.returns-in_err-query-clause-unc
 returns-in_err-query-clause-unchanged c =
     on_err c.from_residual.result _ (ap view_of (stays c.args.text.now c.self.inside.queries c.bring_forward.new.queries (sym c.bring_forward.ensures.held ∙ c.if-bring_forward.false) c.bring_forward.ensures.order) ∙ c.self.view_is)
 
-pub keep-requires : goal.keep-requires
-keep-requires c =
+pub keep_parsed-requires : goal.keep_parsed-requires
+keep_parsed-requires c =
     let none = sym c.bring_forward.ensures.held ∙ c.if-bring_forward.false in
     let s = stays c.args.text.now c.self.inside.queries c.bring_forward.new.queries none c.bring_forward.ensures.order in
     ap (λ l. lookup (is_text c.args.text.now) l.entries) s ∙ not_held c.args.text.now c.self.inside.queries.entries none
 
 pub invariant_of-self-2 : goal.invariant_of-self-2
 invariant_of-self-2 c =
-    cache_kept c.args.text.now c.in_ok-query.query c.bring_forward.new.queries c.keep.new.queries c.keep.result c.in_ok-query.ensures.valid
-    (cache_stays c.args.text.now c.self.inside.queries c.bring_forward.new.queries c.self.invariant c.bring_forward.ensures.order) c.keep.ensures
+    cache_kept c.args.text.now c.in_ok-query.query c.bring_forward.new.queries c.keep_parsed.new.queries c.keep_parsed.result c.in_ok-query.ensures.valid
+    (cache_stays c.args.text.now c.self.inside.queries c.bring_forward.new.queries c.self.invariant c.bring_forward.ensures.order) c.keep_parsed.ensures
 
 pub returns-clause-list : goal.returns-clause-list
 returns-clause-list c =
     let none = sym c.bring_forward.ensures.held ∙ c.if-bring_forward.false in
     let s = stays c.args.text.now c.self.inside.queries c.bring_forward.new.queries none c.bring_forward.ensures.order in
-    subst (λ h. Admits c.args.text.now (is_none c.keep.result) h (view_of c.keep.new.queries)) (ap view_of s ∙ c.self.view_is)
-    (admits_kept c.args.text.now c.in_ok-query.query c.bring_forward.new.queries c.keep.new.queries c.keep.result (ap (λ l. is_some (lookup (is_text c.args.text.now) l.entries)) s ∙ none) c.keep.ensures)
+    subst (λ h. Admits c.args.text.now (is_none c.keep_parsed.result) h (view_of c.keep_parsed.new.queries)) (ap view_of s ∙ c.self.view_is)
+    (admits_kept c.args.text.now c.in_ok-query.query c.bring_forward.new.queries c.keep_parsed.new.queries c.keep_parsed.result (ap (λ l. is_some (lookup (is_text c.args.text.now) l.entries)) s ∙ none) c.keep_parsed.ensures)
 
 pub returns-clause-few : goal.returns-clause-few
 returns-clause-few c =
-    within c.keep.new.queries.entries c.keep.new.queries.cap
-    (cache_kept c.args.text.now c.in_ok-query.query c.bring_forward.new.queries c.keep.new.queries c.keep.result c.in_ok-query.ensures.valid
-    (cache_stays c.args.text.now c.self.inside.queries c.bring_forward.new.queries c.self.invariant c.bring_forward.ensures.order) c.keep.ensures)
+    within c.keep_parsed.new.queries.entries c.keep_parsed.new.queries.cap
+    (cache_kept c.args.text.now c.in_ok-query.query c.bring_forward.new.queries c.keep_parsed.new.queries c.keep_parsed.result c.in_ok-query.ensures.valid
+    (cache_stays c.args.text.now c.self.inside.queries c.bring_forward.new.queries c.self.invariant c.bring_forward.ensures.order) c.keep_parsed.ensures)

@@ -2,7 +2,7 @@ use Rattle.std.proofs.Common.{refl}
 use Rattle.wire_frames.specs.Readings.{asked_of}
 use Rattle.path_hub.specs.UnderWay.{query_in}
 use Rattle.path_hub.proofs.UnderWay.{copied}
-use Rattle.path_hub.proofs.tasks.Tasks.keep.Goals as goal
+use Rattle.path_hub.proofs.tasks.Tasks.keep_query.Goals as goal
 
 pub returns-clause-ok : goal.returns-clause-ok
 returns-clause-ok c = (
