@@ -5,13 +5,10 @@ ghost use Rattle.std.specs.Int.{w32, to_be_bytes};
 ghost use Rattle.client_frames.specs.Came.{Shows};
 
 use crate::numbers::spelled;
-use store_names::LONGEST_REPLY;
-
-/// The bytes of a frame's length.
-const LENGTH_BYTES: usize = 4;
+use store_names::{LENGTH_BYTES, LONGEST_REPLY};
 
 /// The bytes of a reply's body before the payload: the status and the number.
-const BEFORE_PAYLOAD: usize = 5;
+const BEFORE_PAYLOAD: usize = store_names::BEFORE_PAYLOAD as usize;
 
 /// A reply: its status, its request's number and its payload, which is empty unless the status is Ok (0).
 #[derive(Clone, Copy, Debug)]

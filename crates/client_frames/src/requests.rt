@@ -10,11 +10,9 @@ ghost use Rattle.client_frames.specs.Sent.{IsAbove, IsWithin, given_field, parts
 use json_tape::TEXT_LIMIT;
 use path_grammar::QUERY_LIMIT;
 use std::alloc::AllocError;
+use store_names::FIELDS_AT;
 use thiserror::Error;
 use wire_frames::Command;
-
-/// The bytes of a body before its fields: the command, the number and the key.
-const BEFORE_FIELDS: usize = 21;
 
 /// Why a request could not be written.
 #[derive(Clone, Copy, Debug, Drop, PartialEq, Eq, Error)]
@@ -118,7 +116,7 @@ fn body_length(given: &Parts<'_>) -> u32
     ensures { result ≡ 21 + length (parts given.now.collection.now given.now.document.now given.now.rest.now) }
 {
     let names = field_length(given.collection) + field_length(given.document);
-    (BEFORE_FIELDS + names + given.rest.len()) as u32
+    (FIELDS_AT + names + given.rest.len()) as u32
 }
 
 /// The first bytes of a frame, up to the key.

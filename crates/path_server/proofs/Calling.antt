@@ -15,8 +15,7 @@ use Rattle.path_server.specs.Exchanges.{Exchanges, IsReply}
 use Rattle.path_server.specs.declared.request_lines.Request.{Request}
 use Rattle.path_server.specs.declared.call_fault.CallFault.{CallFault}
 use Rattle.path_server.specs.declared.call_fault.CallFault.TheVariants.{TooLong, BadLine, ReadFault, WriteFault, Memory}
-use Rattle.path_hub.proofs.Traffic.{joined-append, moved_none, moved_trans, read_in-append, written_in-append}
-use Rattle.path_server.proofs.Moves.{turn_read, turn_written}
+use Rattle.path_server.proofs.Moves.{moved_none, moved_trans, read_on, written_on, turn_read, turn_written}
 use Rattle.path_server.proofs.Framed.{holds_nothing}
 use Rattle.path_server.proofs.Replying.{fault_since}
 
@@ -30,14 +29,14 @@ turns_written [] [] ms t = ap written_in t
 turns_written [] (b ∷ bs) ms t = absurd t
 turns_written (q ∷ qs) [] ms t = absurd t
 turns_written (q ∷ qs) (b ∷ bs) ms (first, others, e, t, more) =
-    ap written_in e ∙ written_in-append first others ∙ ap (λ x. x ++ written_in others) (ap written_in t.moves_are ∙ turn_written t.pieces t.chunks ∙ t.sent) ∙ ap (λ x. q ++ x) (turns_written qs bs others more)
+    ap written_in e ∙ written_on first others ∙ ap (λ x. x ++ written_in others) (ap written_in t.moves_are ∙ turn_written t.pieces t.chunks ∙ t.sent) ∙ ap (λ x. q ++ x) (turns_written qs bs others more)
 
 turns_read : (qs bs : List (List ℕ)) (ms : List Move) → AreTurns qs bs ms → read_in ms ≡ flat_map frame bs
 turns_read [] [] ms t = ap read_in t
 turns_read [] (b ∷ bs) ms t = absurd t
 turns_read (q ∷ qs) [] ms t = absurd t
 turns_read (q ∷ qs) (b ∷ bs) ms (first, others, e, t, more) =
-    ap read_in e ∙ read_in-append first others ∙ ap (λ x. x ++ read_in others) (ap read_in t.moves_are ∙ turn_read t.pieces t.chunks ∙ t.read) ∙ ap (λ x. frame b ++ x) (turns_read qs bs others more)
+    ap read_in e ∙ read_on first others ∙ ap (λ x. x ++ read_in others) (ap read_in t.moves_are ∙ turn_read t.pieces t.chunks ∙ t.read) ∙ ap (λ x. frame b ++ x) (turns_read qs bs others more)
 
 turns_length : (qs bs : List (List ℕ)) (ms : List Move) → AreTurns qs bs ms → length bs ≡ length qs
 turns_length [] [] ms t = refl
@@ -126,7 +125,7 @@ turn_replies : (done bodies : List (List ℕ)) (moves : List Move) → AreTurns 
 turn_replies done bodies moves t short = record { whole = turns_read done bodies moves t ∙ sym (append-nil (flat_map frame bodies)); each = short; none = holds_nothing }
 
 turns_sent : (done later bodies : List (List ℕ)) (moves : List Move) → AreTurns done bodies moves → joined (done ++ later) ≡ written_in moves ++ joined later
-turns_sent done later bodies moves t = joined-append done later ∙ ap (λ x. x ++ joined later) (sym (turns_written done bodies moves t))
+turns_sent done later bodies moves t = flat_map-append (λ bytes. bytes) done later ∙ ap (λ x. x ++ joined later) (sym (turns_written done bodies moves t))
 
 pub called_all : (m n : Meaning) (requests : List (List ℕ)) (old new : List ℕ) → Called m requests old n new → Calls requests m old (Ok tt) n new
 called_all m n requests old new c = record {
@@ -196,11 +195,11 @@ regroup a p u l = ap (λ x. a ++ x) (append_assoc p u l) ∙ sym (append_assoc a
 part_sent : (done later : List (List ℕ)) (request : List ℕ) (moved : List Move) (pieces chunks : List (List ℕ)) (unsent : List ℕ) → written_in moved ≡ joined done → request ≡ joined pieces ++ unsent
     → joined (done ++ request ∷ later) ≡ written_in (moved ++ (map Took pieces ++ map Gave chunks)) ++ (unsent ++ joined later)
 part_sent done later request moved pieces chunks unsent written sent =
-    let now : written_in (moved ++ (map Took pieces ++ map Gave chunks)) ≡ joined done ++ joined pieces = written_in-append moved (map Took pieces ++ map Gave chunks) ∙ ap (λ x. x ++ written_in (map Took pieces ++ map Gave chunks)) written ∙ ap (λ x. joined done ++ x) (turn_written pieces chunks) in
-    joined-append done (request ∷ later) ∙ ap (λ x. joined done ++ (x ++ joined later)) sent ∙ regroup (joined done) (joined pieces) unsent (joined later) ∙ ap (λ x. x ++ (unsent ++ joined later)) (sym now)
+    let now : written_in (moved ++ (map Took pieces ++ map Gave chunks)) ≡ joined done ++ joined pieces = written_on moved (map Took pieces ++ map Gave chunks) ∙ ap (λ x. x ++ written_in (map Took pieces ++ map Gave chunks)) written ∙ ap (λ x. joined done ++ x) (turn_written pieces chunks) in
+    flat_map-append (λ bytes. bytes) done (request ∷ later) ∙ ap (λ x. joined done ++ (x ++ joined later)) sent ∙ regroup (joined done) (joined pieces) unsent (joined later) ∙ ap (λ x. x ++ (unsent ++ joined later)) (sym now)
 
 part_read : (bodies : List (List ℕ)) (moved : List Move) (pieces chunks : List (List ℕ)) → read_in moved ≡ flat_map frame bodies → read_in (moved ++ (map Took pieces ++ map Gave chunks)) ≡ flat_map frame bodies ++ joined chunks
-part_read bodies moved pieces chunks read = read_in-append moved (map Took pieces ++ map Gave chunks) ∙ ap (λ x. x ++ read_in (map Took pieces ++ map Gave chunks)) read ∙ ap (λ x. flat_map frame bodies ++ x) (turn_read pieces chunks)
+part_read bodies moved pieces chunks read = read_on moved (map Took pieces ++ map Gave chunks) ∙ ap (λ x. x ++ read_in (map Took pieces ++ map Gave chunks)) read ∙ ap (λ x. flat_map frame bodies ++ x) (turn_read pieces chunks)
 
 -- a turn that is broken off
 pub record Breaks (request : List ℕ) (n k : Meaning) : Type 0 where

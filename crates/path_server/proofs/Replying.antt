@@ -1,5 +1,6 @@
 -- A reply read piece by piece.
 use Rattle.std.proofs.Common.{◌≡◌, ℕ, ◌+◌, ◌-◌, ◌<◌, ◌≤◌, List, [], ◌∷◌, ◌++◌, length, map, take, sym, ap, ◌∙◌, subst, refl, arith, length-append, length-take, append_assoc, ◌⊎◌, inl, inr, Result, Ok, Err, true, false}
+use Rattle.std.proofs.lemmas.List.Concat.{flat_map-append}
 use Rattle.std.proofs.lemmas.List.{append-nil, map_push, map-append, take_at, take_all, take-append-le}
 use Rattle.std.specs.Int.{w32, from_be_bytes}
 use Rattle.path_hub.specs.Into.{joined}
@@ -10,7 +11,7 @@ use Rattle.path_server.specs.Calls.{HoldsNoReply, IsReadFault}
 use Rattle.path_server.specs.Exchanges.{EndsReply, EndsExchange, Exchanges, IsCutShort, IsReply, ReadsBytes, ReadsReply, SpellsLength}
 use Rattle.path_server.specs.declared.call_fault.CallFault.{CallFault}
 use Rattle.path_server.specs.declared.call_fault.CallFault.TheVariants.{TooLong, BadLine, ReadFault, WriteFault, Memory}
-use Rattle.path_hub.proofs.Traffic.{joined-append, moved_none, moved_trans}
+use Rattle.path_server.proofs.Moves.{moved_none, moved_trans}
 use Rattle.path_server.proofs.Framed.{above_limit, is_reply, not_whole, reply_or_none}
 
 -- so many of the bytes came, and stand behind what stood there
@@ -32,7 +33,7 @@ pub record OneMore (count : ℕ) (m : Meaning) (piece : List ℕ) (left : ℕ) (
   pub failures : k.failures ≡ m.failures
 
 push_joined : (cs : List (List ℕ)) (c : List ℕ) → joined (cs ++ c ∷ []) ≡ joined cs ++ c
-push_joined cs c = joined-append cs (c ∷ []) ∙ ap (λ s. joined cs ++ s) (append-nil c)
+push_joined cs c = flat_map-append (λ bytes. bytes) cs (c ∷ []) ∙ ap (λ s. joined cs ++ s) (append-nil c)
 
 push_length : (cs : List (List ℕ)) (c : List ℕ) → length (joined (cs ++ c ∷ [])) ≡ length (joined cs) + length c
 push_length cs c = ap length (push_joined cs c) ∙ length-append (joined cs) c
@@ -145,7 +146,7 @@ behind len m n k head part cs r s told part_is =
     record {
       chunks = r.chunks ++ cs;
       told = subst (λ ms. Moved m.traffic ms k.traffic) (sym (map-append Gave r.chunks cs)) (moved_trans m.traffic n.traffic k.traffic (map Gave r.chunks) (map Gave cs) r.told told);
-      came = joined-append r.chunks cs ∙ ap (λ x. x ++ joined cs) (sym r.ends.1) ∙ ap (λ x. head ++ x) part_is;
+      came = flat_map-append (λ bytes. bytes) r.chunks cs ∙ ap (λ x. x ++ joined cs) (sym r.ends.1) ∙ ap (λ x. head ++ x) part_is;
       spells = spells_more head part len s four;
       long = omega (arith, length-append head part, four);
     }

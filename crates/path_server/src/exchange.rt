@@ -4,8 +4,9 @@ ghost use Rattle.std.specs.Prelude.{◌≡◌, ◌-◌, ◌^◌, ◌<◌, length
 ghost use Rattle.path_server.specs.Exchanges.{Exchanges, ReadsBytes, ReadsReply};
 
 use crate::call_fault::CallFault;
-use crate::request_lines::{LENGTH_BYTES, spelled_length};
+use crate::request_lines::spelled_length;
 use path_hub::{Wire, write_all};
+use store_names::LENGTH_BYTES;
 use tenant_store::LONGEST_REPLY;
 
 // Reads so many bytes, and puts them behind those that stand there. No more are taken off the wire.

@@ -7,10 +7,8 @@ ghost use Rattle.path_server.specs.Exchanges.{SpellsLength};
 use crate::text_lines::Line;
 use hex::FromHexError;
 use std::alloc::{AllocError, Global};
+use store_names::LENGTH_BYTES;
 use wire_frames::LONGEST_BODY;
-
-/// The bytes of a frame's length.
-pub const LENGTH_BYTES: usize = 4;
 
 /// A whole request frame.
 #[derive(Drop)]

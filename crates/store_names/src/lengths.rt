@@ -1,4 +1,13 @@
-//! How long a reply may be.
+//! Where the fields of a frame stand, and how long a reply may be.
+
+/// The bytes of a frame's length.
+pub const LENGTH_BYTES: usize = 4;
+
+/// Where the key begins in a request's body: behind the command and the number.
+pub const KEY_AT: usize = 5;
+
+/// Where the fields begin in a request's body: behind the key.
+pub const FIELDS_AT: usize = 21;
 
 /// The most bytes in the body of a reply.
 pub const LONGEST_REPLY: usize = 8_388_608;

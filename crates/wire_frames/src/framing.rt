@@ -7,13 +7,11 @@ ghost use Rattle.wire_frames.specs.NextFrame.{next_of, lent_as};
 use bytes::{Bytes, BytesMut};
 use std::alloc::{AllocError, Global};
 use std::marker::Model;
+use store_names::LENGTH_BYTES;
 use thiserror::Error;
 
 /// The most bytes in the body of a request frame.
 pub const LONGEST_BODY: usize = 6_291_456;
-
-/// The bytes of a frame's length.
-pub(crate) const LENGTH_BYTES: usize = 4;
 
 /// What the bytes that wait begin with.
 #[derive(Debug, Drop)]

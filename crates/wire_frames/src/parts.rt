@@ -1,7 +1,7 @@
 //! How long frames may be, and a frame of which a part came.
 
-use crate::framing::{LENGTH_BYTES, LONGEST_BODY};
-use store_names::LONGEST_REPLY;
+use crate::framing::LONGEST_BODY;
+use store_names::{LENGTH_BYTES, LONGEST_REPLY};
 
 /// The most bytes of a request, with its length.
 pub const LONGEST_FRAME: usize = LENGTH_BYTES + LONGEST_BODY;

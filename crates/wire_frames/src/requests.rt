@@ -8,7 +8,7 @@ ghost use Rattle.wire_frames.specs.Frames.{IsByte};
 ghost use Rattle.wire_frames.specs.Readings.{reading_of, asked_by, asked_of, place_of};
 ghost use Rattle.wire_frames.specs.Written.{IsWritten};
 
-use store_names::{CollName, DocName};
+use store_names::{CollName, DocName, FIELDS_AT, KEY_AT};
 use thiserror::Error;
 
 const PUT: u8 = 1;
@@ -26,12 +26,6 @@ const DROP: u8 = 6;
 const USAGE: u8 = 7;
 
 const PUT_NEW: u8 = 8;
-
-/// Where the key begins: behind the command byte and the number.
-const KEY_AT: usize = 5;
-
-/// Where the fields begin: behind the key.
-const FIELDS_AT: usize = 21;
 
 /// What a tenant asks.
 #[derive(Clone, Copy, Debug)]
