@@ -1,7 +1,7 @@
 //! A budget of 100 bytes, and a few that ask.
 
 use crate::trial::Trial;
-use memory_budget::{Answer, Budget, Share};
+use memory_budget::{Budget, Grant, Share};
 use std::alloc::Global;
 
 /// The trials.
@@ -20,7 +20,7 @@ pub fn trials(alloc: Global) -> [(&'static str, Trial); 3] {
 }
 
 /// What one that asks is answered, where it is.
-fn asked(budget: &mut Budget, party: usize, owner: usize, bytes: usize) -> Option<Answer> {
+fn asked(budget: &mut Budget, party: usize, owner: usize, bytes: usize) -> Option<Grant> {
     if bytes > budget.most() || party >= budget.parties() {
         return None;
     }
@@ -42,12 +42,12 @@ fn who_holds_least_is_served(alloc: Global) -> Trial {
     };
     let mut trial = Trial::of(&[
         budget.has_room(0, 100),
-        asked(&mut budget, 0, 1, 70) == Some(Answer::Granted(0)),
+        asked(&mut budget, 0, 1, 70) == Some(Grant::Granted(0)),
         !budget.is_waited_for(),
-        asked(&mut budget, 0, 2, 40) == Some(Answer::Waits(1)),
+        asked(&mut budget, 0, 2, 40) == Some(Grant::Waits(1)),
         budget.is_waited_for(),
         !budget.has_room(1, 10),
-        asked(&mut budget, 1, 3, 50) == Some(Answer::Waits(2)),
+        asked(&mut budget, 1, 3, 50) == Some(Grant::Waits(2)),
         budget.next().is_none(),
     ]);
     budget.shrink(0, 0, 50);
@@ -67,14 +67,14 @@ fn one_that_waits_leaves(alloc: Global) -> Trial {
         return Trial::unprepared();
     };
     let mut trial = Trial::of(&[
-        asked(&mut budget, 0, 7, 60) == Some(Answer::Granted(0)),
-        asked(&mut budget, 0, 8, 100) == Some(Answer::Waits(1)),
-        asked(&mut budget, 0, 9, 40) == Some(Answer::Waits(2)),
+        asked(&mut budget, 0, 7, 60) == Some(Grant::Granted(0)),
+        asked(&mut budget, 0, 8, 100) == Some(Grant::Waits(1)),
+        asked(&mut budget, 0, 9, 40) == Some(Grant::Waits(2)),
     ]);
     budget.release(0, 1);
     trial.case(budget.next() == share(2, 9, 40));
     trial.case(budget.left() == 0);
-    trial.case(asked(&mut budget, 0, 8, 100) == Some(Answer::Waits(4)));
+    trial.case(asked(&mut budget, 0, 8, 100) == Some(Grant::Waits(4)));
     budget.release(0, 2);
     budget.release(0, 0);
     trial.case(budget.next() == share(4, 8, 100));
@@ -91,12 +91,12 @@ fn a_newcomer_has_what_is_spared(alloc: Global) -> Trial {
     let mut trial = Trial::of(&[
         budget.most() == 80,
         asked(&mut budget, 0, 1, 81).is_none(),
-        asked(&mut budget, 0, 1, 80) == Some(Answer::Granted(0)),
+        asked(&mut budget, 0, 1, 80) == Some(Grant::Granted(0)),
         !budget.has_room(0, 10),
         budget.has_room(1, 20),
         !budget.may_grow(1),
-        asked(&mut budget, 0, 2, 10) == Some(Answer::Waits(1)),
-        asked(&mut budget, 1, 3, 20) == Some(Answer::Waits(2)),
+        asked(&mut budget, 0, 2, 10) == Some(Grant::Waits(1)),
+        asked(&mut budget, 1, 3, 20) == Some(Grant::Waits(2)),
     ]);
     trial.case(budget.next() == share(2, 3, 20));
     trial.case(budget.next().is_none());

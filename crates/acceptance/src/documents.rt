@@ -248,7 +248,7 @@ fn shows_names(alloc: Global) -> Trial {
 }
 
 /// The member of this name of an entry.
-fn found(document: &Document, n: u32, name: &[char]) -> Option<NodeId> {
+fn found_member(document: &Document, n: u32, name: &[char]) -> Option<NodeId> {
     if n < document.node_count() {
         document.member(NodeId(n), name)
     } else {
@@ -263,20 +263,20 @@ fn finds_members(alloc: Global) -> Trial {
     };
     Trial::of(&[
         document.node_count() == 9,
-        found(&document, 0, &['a', 'b']) == some(1),
-        found(&document, 0, &['b']) == some(3),
-        found(&document, 0, &[]) == some(5),
-        found(&document, 0, &['a']) == some(6),
-        found(&document, 0, &['a', '\u{e9}']) == some(7),
-        found(&document, 0, &['\\']) == some(8),
-        found(&document, 0, &['a', 'c']).is_none(),
-        found(&document, 0, &['a', 'b', 'c']).is_none(),
-        found(&document, 0, &['\u{e9}']).is_none(),
-        found(&document, 1, &['b']) == some(2),
-        found(&document, 2, &['b']).is_none(),
-        found(&document, 3, &['b']).is_none(),
-        found(&document, 4, &['b']).is_none(),
-        found(&document, 8, &['b']).is_none(),
+        found_member(&document, 0, &['a', 'b']) == some(1),
+        found_member(&document, 0, &['b']) == some(3),
+        found_member(&document, 0, &[]) == some(5),
+        found_member(&document, 0, &['a']) == some(6),
+        found_member(&document, 0, &['a', '\u{e9}']) == some(7),
+        found_member(&document, 0, &['\\']) == some(8),
+        found_member(&document, 0, &['a', 'c']).is_none(),
+        found_member(&document, 0, &['a', 'b', 'c']).is_none(),
+        found_member(&document, 0, &['\u{e9}']).is_none(),
+        found_member(&document, 1, &['b']) == some(2),
+        found_member(&document, 2, &['b']).is_none(),
+        found_member(&document, 3, &['b']).is_none(),
+        found_member(&document, 4, &['b']).is_none(),
+        found_member(&document, 8, &['b']).is_none(),
     ])
 }
 
@@ -389,19 +389,19 @@ fn reads_in_shares(alloc: Global) -> Trial {
 
 fn takes_verdicts_on_its_text(alloc: Global) -> Trial {
     let mut trial = Trial::new();
-    let own = known(alloc, b"[1,2]", b"[1,2]");
+    let own = known_text(alloc, b"[1,2]", b"[1,2]");
     trial.case(matches!(own, Ok(3)));
-    let of_another = known(alloc, b"[1,2]", b"[1,2,3]");
+    let of_another = known_text(alloc, b"[1,2]", b"[1,2,3]");
     trial.case(matches!(of_another, Ok(4)));
-    let refused = known(alloc, b"[1,2", b"[1,2");
+    let refused = known_text(alloc, b"[1,2", b"[1,2");
     trial.case(matches!(refused, Err(TextFault::NotJson)));
-    let fault_of_another = known(alloc, b"[1,2", b"[1,2]");
+    let fault_of_another = known_text(alloc, b"[1,2", b"[1,2]");
     trial.case(matches!(fault_of_another, Ok(3)));
     trial
 }
 
 /// Reads a text where the verdict on the first one is known: the number of its values.
-fn known(alloc: Global, read: &[u8], text: &[u8]) -> Result<u32, TextFault> {
+fn known_text(alloc: Global, read: &[u8], text: &[u8]) -> Result<u32, TextFault> {
     let verdict = match ReadTask::begin(alloc, read) {
         Ok(task) => match task.step(alloc, 400) {
             Progress::Complete(verdict) => Some(verdict),

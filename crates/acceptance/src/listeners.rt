@@ -30,7 +30,7 @@ pub fn trials(alloc: Global) -> [(&'static str, Trial); 1] {
 struct Count(u32);
 
 impl EndLog for Count {
-    fn tell(&mut self, _ending: Ending) {
+    fn tell_end(&mut self, _ending: Ending) {
         self.0 = self.0.saturating_add(1);
     }
 }

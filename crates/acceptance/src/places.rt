@@ -40,7 +40,7 @@ fn tells(found: &Index, places: &[u32], flags: (bool, bool)) -> bool {
     found.places.as_slice() == places && (found.unclosed, found.control_inside) == flags
 }
 
-// The same of the index of a text, and of the one that is made with a copy of it.
+// Whether the index of a text has these places and flags, and so has the one that is made with a copy of it.
 fn is_indexed(alloc: Global, text: &[u8], places: &[u32], flags: (bool, bool)) -> bool
     requires { length text.now ≤ text_limit }
 {
@@ -146,7 +146,7 @@ fn looks_are_few(alloc: Global) -> Trial {
     ])
 }
 
-// The same of bytes, none where they are not UTF-8.
+// The places and looks of bytes, or nothing where they are not UTF-8.
 fn looked_of(alloc: Global, bytes: &[u8]) -> Option<(usize, Option<u64>)>
     requires { length bytes.now ≤ text_limit }
 {

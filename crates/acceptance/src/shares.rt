@@ -4,7 +4,7 @@ ghost use Rattle.path_hub.specs.UnderWay.{AreOnWay};
 
 use crate::session::{KEY, OTHER_KEY, front};
 use crate::trial::Trial;
-use path_hub::{Hub, Share, Tasks};
+use path_hub::{Advance, Hub, Tasks};
 use std::alloc::Global;
 
 /// A puts `[2]` at c/d and `[3]` at c/e, and asks `$[0]` of c.
@@ -75,7 +75,7 @@ fn share(
     conn: u32,
     tasks: &mut Tasks,
     out: &mut Vec<u8>,
-) -> Option<Share>
+) -> Option<Advance>
     requires { AreOnWay hub.old.tenants tasks.old }
     ensures { AreOnWay hub.new.tenants tasks.new }
 {
@@ -92,7 +92,7 @@ fn replies(hub: &mut Hub, alloc: Global, conn: u32, tasks: &mut Tasks, out: &mut
 {
     matches!(
         share(hub, alloc, conn, tasks, out),
-        Some(Share::Replied { .. })
+        Some(Advance::Replied { .. })
     )
 }
 
@@ -119,14 +119,14 @@ fn answers_others_between_shares(alloc: Global) -> Trial {
     let mut trial = Trial::new();
     trial.case(replies(&mut hub, alloc, 1, &mut tasks, &mut out));
     trial.case(replies(&mut hub, alloc, 1, &mut tasks, &mut out));
-    trial.case(share(&mut hub, alloc, 1, &mut tasks, &mut out) == Some(Share::Working));
+    trial.case(share(&mut hub, alloc, 1, &mut tasks, &mut out) == Some(Advance::Working));
     trial.case(out.as_slice() == front(REPLIES, 18));
     trial.case(share(&mut hub, alloc, 2, &mut tasks, &mut others).is_none());
     trial.case(replies(&mut hub, alloc, 3, &mut tasks, &mut others));
     trial.case(others.len() == 21);
     trial.case(ends(&mut hub, alloc, 1, &mut tasks, &mut out));
     trial.case(out.as_slice() == REPLIES);
-    trial.case(share(&mut hub, alloc, 1, &mut tasks, &mut out) == Some(Share::Idle));
+    trial.case(share(&mut hub, alloc, 1, &mut tasks, &mut out) == Some(Advance::Idle));
     others.clear();
     trial.case(replies(&mut hub, alloc, 2, &mut tasks, &mut others));
     trial.case(others.as_slice() == DROPPED);
@@ -142,7 +142,7 @@ fn answers_others_within_a_document(alloc: Global) -> Trial {
     let mut others = Vec::new(alloc);
     let mut trial = Trial::new();
     trial.case(replies(&mut hub, alloc, 1, &mut tasks, &mut out));
-    trial.case(share(&mut hub, alloc, 1, &mut tasks, &mut out) == Some(Share::Working));
+    trial.case(share(&mut hub, alloc, 1, &mut tasks, &mut out) == Some(Advance::Working));
     trial.case(out.as_slice() == front(REPLIES_OF_ONE, 9));
     trial.case(share(&mut hub, alloc, 2, &mut tasks, &mut others).is_none());
     trial.case(replies(&mut hub, alloc, 3, &mut tasks, &mut others));

@@ -6,7 +6,7 @@ use Rattle.httparse.specs.Grammar.{RequestHead}
 use Rattle.httparse.specs.Spans.{name_and_value}
 use Rattle.admin_pages.specs.declared.heads.Reading.{Reading}
 use Rattle.admin_pages.specs.declared.heads.Reading.TheVariants.{Part, Asked, Refused}
-use Rattle.admin_pages.specs.declared.routes.Asked as asked
+use Rattle.admin_pages.specs.declared.routes.AdminRequest as asked
 use Rattle.admin_pages.specs.declared.routes.Refusal.{Refusal}
 use Rattle.admin_pages.specs.declared.routes.Refusal.TheVariants.{BadRequest, Forbidden, HasBody}
 use Rattle.admin_pages.specs.Hosts.{is_elsewhere, is_host}
@@ -28,7 +28,7 @@ field_brings_body field = brings_body field.0 field.1
 abbrev pub field_is_elsewhere : (own : List (List ℕ)) → List ℕ × List ℕ → Bool
 field_is_elsewhere own field = is_elsewhere own field.0 field.1
 
-abbrev pub reading_of : Result asked.Asked Refusal → Reading
+abbrev pub reading_of : Result asked.AdminRequest Refusal → Reading
 reading_of (Ok it) = Asked it
 reading_of (Err refusal) = Refused refusal
 

@@ -2,8 +2,8 @@
 use Rattle.std.specs.Prelude.{ℕ, ◌+◌, ◌-◌, ◌*◌, ◌&&◌, Bool, List, [], ◌∷◌, take, drop, length, nat_lt, nat_le, if◌then◌else◌, codes, Option, Some, None, Result, Ok, Err}
 use Rattle.std.specs.Char.{is_ascii_digit}
 use Rattle.std.specs.Str.{bytes_eq}
-use Rattle.admin_pages.specs.declared.routes.Asked.TheVariants as asked
-use Rattle.admin_pages.specs.declared.routes.Asked.{Asked}
+use Rattle.admin_pages.specs.declared.routes.AdminRequest.TheVariants as asked
+use Rattle.admin_pages.specs.declared.routes.AdminRequest.{AdminRequest}
 use Rattle.admin_pages.specs.declared.routes.Refusal.{Refusal}
 use Rattle.admin_pages.specs.declared.routes.Refusal.TheVariants.{BadRequest, NotFound, GetOnly, PostOnly, GetOrPostOnly}
 use Rattle.admin_pages.specs.declared.routes.Target.{Target}
@@ -33,7 +33,7 @@ target_of target =
     else Elsewhere
 
 -- by whether the method is GET, and whether it is POST
-abbrev pub asked_of : (is_get is_post : Bool) → Target → Result Asked Refusal
+abbrev pub asked_of : (is_get is_post : Bool) → Target → Result AdminRequest Refusal
 asked_of is_get is_post Health = if is_get then Ok asked.Health else Err GetOnly
 asked_of is_get is_post Ready = if is_get then Ok asked.Ready else if is_post then Ok asked.SayReady else Err GetOrPostOnly
 asked_of is_get is_post Metrics = if is_get then Ok asked.Metrics else Err GetOnly
@@ -41,5 +41,5 @@ asked_of is_get is_post (Drain seconds) = if is_post then Ok (asked.Drain second
 asked_of is_get is_post BadGrace = if is_post then Err BadRequest else Err PostOnly
 asked_of is_get is_post Elsewhere = Err NotFound
 
-abbrev pub route : (method target : List ℕ) → Result Asked Refusal
+abbrev pub route : (method target : List ℕ) → Result AdminRequest Refusal
 route method target = asked_of (bytes_eq method (codes "GET")) (bytes_eq method (codes "POST")) (target_of target)

@@ -8,7 +8,7 @@ ghost use Rattle.admin_pages.specs.Heads.{brings_body, field_brings_body, field_
 ghost use Rattle.admin_pages.specs.Hosts.{texts};
 
 use crate::hosts::{is_elsewhere, is_host};
-use crate::routes::{Asked, Refusal, route};
+use crate::routes::{AdminRequest, Refusal, route};
 use httparse::spans::{EMPTY_HEADER_SPAN, HeaderSpan, RequestSpans, parse_request};
 use httparse::{Error, Status};
 
@@ -18,7 +18,7 @@ pub enum Reading {
     /// The head is not whole, and more bytes can make it so.
     Part,
     /// This is asked.
-    Asked(Asked),
+    Asked(AdminRequest),
     /// It is refused, and nothing else that comes on the connection matters.
     Refused(Refusal),
 }
@@ -55,7 +55,7 @@ fn judge(
     bytes: &[u8],
     head: &RequestSpans,
     headers: &[HeaderSpan],
-) -> Result<Asked, Refusal>
+) -> Result<AdminRequest, Refusal>
     requires within { IsRequestWithin bytes.now headers.now head.now }
     ensures { (h : RequestHead) → IsRequestAt bytes.now headers.now head.now h → reading_of result ≡ judged (texts own.now) h }
 {
@@ -76,12 +76,12 @@ fn judge(
 
 // How many fields are Host, and whether one announces a body.
 #[derive(Clone, Copy)]
-struct Told {
+struct Fields {
     hosts: usize,
     has_body: bool,
 }
 
-fn tell_fields(bytes: &[u8], headers: &[HeaderSpan]) -> Told
+fn tell_fields(bytes: &[u8], headers: &[HeaderSpan]) -> Fields
     requires { All (IsHeaderWithin (length bytes.now)) headers.now }
     ensures hosts { result.hosts ≡ count_by field_is_host (map (header_bytes bytes.now) headers.now) }
     ensures body { result.has_body ≡ list_any field_brings_body (map (header_bytes bytes.now) headers.now) }
@@ -97,7 +97,7 @@ fn tell_fields(bytes: &[u8], headers: &[HeaderSpan]) -> Told
             has_body = true;
         }
     }
-    Told { hosts, has_body }
+    Fields { hosts, has_body }
 }
 
 fn comes_from_elsewhere(own: &[String], bytes: &[u8], headers: &[HeaderSpan]) -> bool

@@ -22,5 +22,5 @@ pub use labels::STATUS_PLACES;
 pub use laws::{counted_once, named_once};
 pub use page::{Gauges, Page};
 pub use replies::{Reply, append_body, append_reply};
-pub use routes::{Asked, Refusal};
+pub use routes::{AdminRequest, Refusal};
 pub use standing::Standing;

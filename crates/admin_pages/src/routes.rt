@@ -4,7 +4,7 @@ ghost use Rattle.admin_pages.specs.Routes.{grace_of, target_of, route, seconds_f
 
 /// What is asked of the administration address.
 #[derive(Clone, Copy, Debug, PartialEq, Eq)]
-pub enum Asked {
+pub enum AdminRequest {
     /// `GET /health`.
     Health,
     /// `GET /ready`.
@@ -54,17 +54,17 @@ const GRACE: u32 = 30;
 const MOST_GRACE: u32 = 86_400;
 
 /// What a method asks of the page that a target names.
-pub(crate) fn route(method: &[u8], target: &[u8]) -> Result<Asked, Refusal>
+pub(crate) fn route(method: &[u8], target: &[u8]) -> Result<AdminRequest, Refusal>
     ensures { result ≡ route method.now target.now }
 {
     let is_get = method == b"GET".as_slice();
     let is_post = method == b"POST".as_slice();
     match target_of(target) {
-        Target::Health if is_get => Ok(Asked::Health),
-        Target::Ready if is_get => Ok(Asked::Ready),
-        Target::Ready if is_post => Ok(Asked::SayReady),
-        Target::Metrics if is_get => Ok(Asked::Metrics),
-        Target::Drain(grace) if is_post => Ok(Asked::Drain(grace)),
+        Target::Health if is_get => Ok(AdminRequest::Health),
+        Target::Ready if is_get => Ok(AdminRequest::Ready),
+        Target::Ready if is_post => Ok(AdminRequest::SayReady),
+        Target::Metrics if is_get => Ok(AdminRequest::Metrics),
+        Target::Drain(grace) if is_post => Ok(AdminRequest::Drain(grace)),
         Target::BadGrace if is_post => Err(Refusal::BadRequest),
         Target::Health | Target::Metrics => Err(Refusal::GetOnly),
         Target::Ready => Err(Refusal::GetOrPostOnly),

@@ -3,7 +3,7 @@ ghost use Rattle.std.specs.Prelude.{◌≡◌, None};
 ghost use Rattle.admin_pages.specs.Standings.{after_asked, at_start, reply_to, takes_in};
 
 use crate::replies::Reply;
-use crate::routes::Asked;
+use crate::routes::AdminRequest;
 
 /// Whether a server was said to be ready, and to drain or to end.
 #[derive(Clone, Copy, Debug, PartialEq, Eq)]
@@ -36,25 +36,25 @@ impl Standing {
     }
 
     /// Takes in what is asked, and tells the reply. A server that drains or ends is not ready.
-    pub fn answer(&mut self, asked: Asked) -> Reply
+    pub fn answer(&mut self, asked: AdminRequest) -> Reply
         ensures reply { result ≡ reply_to self.old asked }
         ensures after { self.new ≡ after_asked self.old asked }
     {
         match asked {
-            Asked::Health => Reply::Healthy,
-            Asked::Ready => {
+            AdminRequest::Health => Reply::Healthy,
+            AdminRequest::Ready => {
                 if self.takes_in() {
                     Reply::Ready
                 } else {
                     Reply::NotReady
                 }
             }
-            Asked::SayReady => {
+            AdminRequest::SayReady => {
                 self.is_ready = true;
                 Reply::Noted
             }
-            Asked::Metrics => Reply::Metrics,
-            Asked::Drain(grace) => {
+            AdminRequest::Metrics => Reply::Metrics,
+            AdminRequest::Drain(grace) => {
                 self.grace = Some(grace);
                 Reply::Draining
             }

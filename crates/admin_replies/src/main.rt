@@ -5,7 +5,7 @@
 #![tactic(auto)]
 
 use admin_pages::{
-    About, Asked, Gauges, Metrics, Page, Reading, Reply, Served, Standing, append_body,
+    About, AdminRequest, Gauges, Metrics, Page, Reading, Reply, Served, Standing, append_body,
     append_reply, read_request,
 };
 use standard_streams::{read_past, write_whole};
@@ -46,7 +46,7 @@ fn run<R: Input + Print + Env + AllocGlobal>(rt: &R) -> io::Result<bool> {
 fn answered(alloc: Global, bytes: &[u8], is_ready: bool) -> Result<Vec<u8>, AllocError> {
     let mut standing = Standing::new();
     if is_ready {
-        let _ = standing.answer(Asked::SayReady);
+        let _ = standing.answer(AdminRequest::SayReady);
     }
     let mut out = Vec::new(alloc);
     let about = about(alloc)?;

@@ -11,7 +11,7 @@ unfoldable pub carried : ℕ → ℕ → ℕ → ℕ
 carried a b zero = 1
 carried a b (suc i) = (bit_at a i + bit_at b i + carried a b i) / 2
 
--- the same as a test
+-- whether a bit is carried
 abbrev pub carries : ℕ → ℕ → ℕ → Bool
 carries a b i = carried a b i == 1
 

@@ -33,7 +33,7 @@ compared_at t n xs ys few lx ly i h =
 pub compared_lt : (t : ℕ → ℕ → Bool) (n : ℕ) (xs ys : List ℕ) → n ≤ 64 → length xs ≡ n → length ys ≡ n → mask_l (map (top 7) (zip2 (λ a b. cond (t a b) 255 0) xs ys)) % 2 ^ 64 < 2 ^ n
 compared_lt t n xs ys few lx ly = let long = length-zip2 t xs ys (lx ∙ sym ly) ∙ lx in let same = ap (λ ms. mask_l ms % 2 ^ 64) (tops_compared w8 t xs ys) ∙ mask_l-mod (zip2 t xs ys) 64 (omega (arith, long)) in grind (arith, same, long, mask_l-lt (zip2 t xs ys))
 
--- the same with one byte in each of 64 lanes
+-- lanes compared with one byte in each of 64
 pub compared_with : (t : ℕ → ℕ → Bool) (xs : List ℕ) (byte : ℕ) → length xs ≡ 64 → HasBits (mask_l (map (top 7) (zip2 (λ a b. cond (t a b) 255 0) xs (replicate 64 byte))) % 2 ^ 64) (λ i. t (get_or xs i 0) byte)
 compared_with t xs byte lx i h = grind (arith, compared_at t 64 xs (replicate 64 byte) (omega arith) lx (length-replicate {A = ℕ} 64 byte) i h, get_or-replicate 64 i byte 0 h)
 

@@ -4,7 +4,7 @@ ghost use Rattle.std.specs.Prelude.{ℕ, ◌≡◌, ◌≢◌, ◌⊎◌, ◌↔
 ghost use Rattle.std.specs.IoError.{error_kind};
 ghost use Rattle.client_commands.specs.Statuses.{status_of, status_of_query, status_of_refusal};
 
-use crate::messages::{Context, tell};
+use crate::messages::{Context, tell_failure};
 use crate::notes::Note;
 use client_frames::{AnswerFault, PayloadFault, SendFault};
 use client_lines::{KeyFault, LineFault};
@@ -193,7 +193,7 @@ impl Failure {
     pub fn report<R: Eprint>(self, rt: &R, context: &Context<'_>, note: &Option<Note>) -> u8
         ensures { result ≡ status_of self }
     {
-        tell(rt, self, context, note);
+        tell_failure(rt, self, context, note);
         self.status()
     }
 }

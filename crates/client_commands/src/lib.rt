@@ -12,5 +12,5 @@ mod statuses;
 pub use failure::Failure;
 pub use messages::Context;
 pub use notes::{Members, Note, Quoted};
-pub use options::{Asked, CommandLineFault, Options, Verb, read_options};
+pub use options::{CommandLineFault, Operation, Options, Verb, read_options};
 pub use statuses::status_name;

@@ -42,12 +42,17 @@ impl<'a> Context<'a> {
 
 /// Prints what happened to standard error: a line with the failure's name, and what is known besides on the lines behind it. If the output was
 /// closed, nothing is printed.
-pub fn tell<R: Eprint>(rt: &R, failure: Failure, context: &Context<'_>, note: &Option<Note>) {
+pub fn tell_failure<R: Eprint>(
+    rt: &R,
+    failure: Failure,
+    context: &Context<'_>,
+    note: &Option<Note>,
+) {
     if let Failure::Closed = failure {
         return;
     }
     let (name, what) = message(failure);
-    let told = Told {
+    let told = Report {
         name,
         what,
         about: about(failure, context),
@@ -62,14 +67,14 @@ pub fn tell<R: Eprint>(rt: &R, failure: Failure, context: &Context<'_>, note: &O
 
 /// What is said of a failure: its name, what is to be done, what it is about, and what failed and why.
 #[derive(Clone, Copy)]
-pub struct Told<'a> {
+pub struct Report<'a> {
     pub name: &'static str,
     pub what: &'static str,
     pub about: &'a str,
     pub cause: Option<Cause<'a>>,
 }
 
-impl<'a> fmt::Display for Told<'a> {
+impl<'a> fmt::Display for Report<'a> {
     fn fmt<W: fmt::Write>(&self, f: &mut fmt::Formatter<W>) -> fmt::Result {
         write!(f, "{}: {}{}", self.name, self.what, self.about)?;
         match self.cause {

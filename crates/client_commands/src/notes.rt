@@ -1,6 +1,6 @@
 //! What is noted of the place at which a text or a query is refused.
 
-use crate::messages::{Cause, Told};
+use crate::messages::{Cause, Report};
 use std::alloc::{AllocError, Global};
 use std::fmt;
 use text_faults::{Finding, Spot};
@@ -37,7 +37,7 @@ impl Note {
 /// A failure as an object of JSON.
 #[derive(Clone, Copy)]
 pub struct JsonFault<'a> {
-    pub told: Told<'a>,
+    pub told: Report<'a>,
     pub note: &'a Option<Note>,
 }
 

@@ -39,7 +39,7 @@ pub enum Verb {
 
 /// What the command line asks for. Words that the command does not have are empty.
 #[derive(Clone, Copy)]
-pub struct Asked<'a> {
+pub struct Operation<'a> {
     pub verb: Verb,
     pub collection: &'a str,
     pub document: &'a str,
@@ -65,7 +65,7 @@ pub struct Asked<'a> {
 pub struct Options<'a> {
     pub address: Option<&'a str>,
     pub key_file: Option<&'a str>,
-    pub asked: Asked<'a>,
+    pub asked: Operation<'a>,
 }
 
 /// A word of the command line: an option, or an argument of a subcommand.
@@ -434,7 +434,7 @@ fn options_of<'a>(matches: &ArgMatches<'a>) -> Result<Options<'a>, Failure> {
     let Some(timeout) = milliseconds(words.get_str("timeout").unwrap_or_default()) else {
         return Err(Failure::Timeout);
     };
-    let asked = Asked {
+    let asked = Operation {
         verb,
         collection: words.get_str("COLLECTION").unwrap_or_default(),
         document: words.get_str("DOCUMENT").unwrap_or_default(),

@@ -17,7 +17,7 @@ hit_lines hits = flat_map hit_line hits
 abbrev pub blanked : ℕ → ℕ
 blanked byte = if byte == 10 then 32 else byte
 
--- the same as a JSON object
+-- a hit's line as a JSON object
 unfoldable pub json_line : Found → List ℕ
 json_line f = codes "{\"document\":\"" ++ (f.document ++ (codes "\",\"path\":" ++ (quoted f.path ++ (codes ",\"value\":" ++ (map blanked f.value ++ codes "}\n")))))
 

@@ -23,7 +23,7 @@ pub struct LongTurns {
     had: [bool; PARTIES],
     // One of a party that had none was put off in the last round.
     is_waited_for: bool,
-    // The same of this round.
+    // Whether one was put off in this round.
     has_put_off: bool,
     // The rounds since a turn that took more than a span.
     since_long: u32,

@@ -10,7 +10,7 @@ use Rattle.std.proofs.lemmas.Bool.{cases_eq}
 use Rattle.json_strings.specs.Spelling.{scalars_in, SpellPlainly, ArePlainAt, IsWord}
 use Rattle.json_strings.proofs.PlainBytes.{plain_run, plain_other}
 
--- the same word of characters that stand for themselves
+-- a name's word is that of the bytes where characters stand for themselves
 pub same_word : (bytes name : List ℕ) (at word : ℕ) → ((k : ℕ) → Fits w8 (get_or bytes k 0)) → IsWord word name at → ArePlainAt name at → IsWord word bytes at → SpellPlainly bytes name at (at + 4)
 same_word bytes name at word fits w plain v k from to = grind (arith, digits)
 

@@ -197,7 +197,7 @@ fn words_hash(text: &[u8], at: usize, len: usize) -> Option<u64>
     }
 }
 
-// The same. Few bytes are a word, which is their hash.
+// The hash of a string without escapes. Few bytes are a word, which is their hash.
 #[inline(always)]
 #[tactic(auto, using(crate::proofs::ShortHashes::word_hashed))]
 fn plain_hash(text: &[u8], at: usize, len: usize) -> Option<u64>

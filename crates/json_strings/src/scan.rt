@@ -63,7 +63,7 @@ fn next_byte(looks: &mut Batch<'_>, mode: Mode, k: usize) -> Stopped
     }
 }
 
-// The same where the text may end here.
+// Goes on at a byte behind which the text may end.
 #[inline(always)]
 fn byte_behind(looks: &mut Batch<'_>, mode: Mode, k: usize) -> Stopped
     requires { k ≤ length looks.old.0 }

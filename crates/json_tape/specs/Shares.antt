@@ -16,7 +16,7 @@ use Rattle.json_walk.specs.UnderWay.{IsUnderWay}
 use Rattle.json_walk.specs.declared.second_stage.Way.{Way}
 
 -- the text, and how many places of its index are left
-pub record Share : Type 0 where
+pub record ReadShare : Type 0 where
   pub text : List ℕ
   pub left : ℕ
 

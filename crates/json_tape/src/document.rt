@@ -127,7 +127,7 @@ pub(crate) fn judged(
     }
 }
 
-// The same of a text that has this index.
+// Reads a text that has this index.
 fn read_indexed(alloc: Global, text: &str, index: &Index) -> Result<Parts, TextFault>
     requires short { length text.now ≤ text_limit }
     requires index { IsIndexOf index.now text.now }
@@ -430,8 +430,8 @@ impl Document {
         }
     }
 
-    /// The same as [`Document::member`], but tries first the value at this distance from the object. Objects of the same shape have a
-    /// name at the same distance.
+    /// The member of this name as [`Document::member`] finds it, where the value at this distance from the object is tried first. Objects of the
+    /// same shape have a name at the same distance.
     #[inline(always)]
     pub fn member_near(&self, n: NodeId, name: &[char], distance: u32) -> Option<NodeId>
         requires { n.0 < count self.now }
@@ -444,7 +444,7 @@ impl Document {
         }
     }
 
-    // The same as `member`, by a call of its own, since it is taken where the place that was tried first is another's.
+    // `member` by a call of its own, since it is taken where the place that was tried first is another's.
     #[inline(never)]
     fn member_elsewhere(&self, n: NodeId, name: &[char]) -> Option<NodeId>
         requires { n.0 < count self.now }
@@ -497,7 +497,7 @@ impl Document {
         None
     }
 
-    // The same for a name without words, by a call of its own: its loop needs other registers.
+    // The first member of a name without words, by a call of its own: its loop needs other registers.
     #[inline(never)]
     fn first_by_bytes(&self, n: NodeId, name: &[char]) -> Option<NodeId>
         requires inside { n.0 < count self.now }
@@ -508,7 +508,7 @@ impl Document {
         self.first_named(n, name, None)
     }
 
-    // The same by what the names mean.
+    // The first member whose name means the one that is sought.
     #[inline(never)]
     fn first_meant(&self, n: NodeId, sought: Sought<'_>) -> Option<NodeId>
         requires inside { n.0 < count self.now }
@@ -529,7 +529,7 @@ impl Document {
         None
     }
 
-    // The same by halving, where the object is wide.
+    // The member that is sought in a wide object, by halving.
     #[inline(never)]
     fn sought_in(&self, n: NodeId, sought: Sought<'_>) -> Option<NodeId>
         requires inside { n.0 < count self.now }

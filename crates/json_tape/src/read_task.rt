@@ -24,9 +24,9 @@ pub struct ReadTask {
 impl Model for ReadTask {
     ghost use Rattle.std.specs.String.{string_bytes};
     ghost use Rattle.json_walk.specs.UnderWay.{left};
-    ghost use Rattle.json_tape.specs.Shares.{Share, IsRead};
+    ghost use Rattle.json_tape.specs.Shares.{ReadShare, IsRead};
 
-    ghost Value = { Share };
+    ghost Value = { ReadShare };
 
     ghost view = { λ t. record { text = string_bytes t.text; left = left t.index t.way } };
 

@@ -75,7 +75,7 @@ close_goes shape p q n n' m len c rest es inner o os w label d i h lm el en =
     made : change_at (es ++ e ∷ inner) (length es) (closed q n (length (es ++ e ∷ inner))) ≡ es ++ record { kind = kind_of_shape shape; role = role_of label; label = label_spot label; source = run_at p len; up = o.entry; children = n'; after = length es + 1 + m } ∷ inner
     made = grind (arith, e, length-append, change_seam)
 
--- the same way, where its ends are written otherwise
+-- a way goes on where its bytes are written otherwise
 from_bytes : {p q : ℕ} {bs bs' cs : List ℕ} {s s' : State} → bs ≡ bs' → Goes p bs' s q cs s' → Goes p bs s q cs s'
 from_bytes {p} {q} {cs = cs} {s = s} {s' = s'} e g = subst (λ l. Goes p l s q cs s') (sym e) g
 

@@ -83,7 +83,7 @@ module _ {K : Type 0} (same : K → K → Bool) (order : K → K → Ordering) (
     go true e = found (repeats_by same xs) refl (next_repeats ys e)
     go false e = sym (rising_alone xs ys p (strict d ys s e))
 
-  -- the same without a value of their type at hand
+  -- a sorted list repeats where its neighbours do, without a value of their type at hand
   pub sorted_repeats : (xs ys : List K) → IsPermutation xs ys → IsSorted order ys → repeats_next_by same ys ≡ repeats_by same xs
   sorted_repeats [] ys p s = go ys (length_permutation [] ys p) where
     go : (ys : List K) → length ys ≡ 0 → repeats_next_by same ys ≡ false

@@ -220,7 +220,7 @@ module _ (bytes items : List ℕ) (listed : IsListed bytes items) where
       let any = value_any tok old w name asks.0 refl in let level = open_level shape (place items k) old.entries old.opens name old.deep _ took in
       grind (arith, one bytes items k now (later + 1) mark mark' tok _ _ l t (any ∙ took) (omega (arith, p)) m, not_root level)
 
-  -- the same by what was lexed
+  -- a leaf is walked by what was lexed
   pub lexed_walks : (k now between later byte : ℕ) (mark mark' : Bool) (shape : Shape) (old new : Built) (w : Want) (name : Option Extent) (l l' : Lexed) (made : Result (Unit {0}) BuildFault) (r : Result (Option ℕ) BuildFault) → k + 1 < length items → level_of old.opens ≡ Inside shape → AsksValue bytes items k w
       → l ≡ l' → TokenAt bytes (place items k) (token_of (place items k) l) → Marked bytes (place items k) mark (Ok (end_of (place items k) l)) mark' → between ≤ now + price_of l
       → is_leaf (token_of (place items k) l') ≡ true → price_of l' ≤ weight (token_of (place items k) l') + 2

@@ -411,7 +411,7 @@ fn run<const OBJECT: bool>(
     Err(BuildFault::NotJson)
 }
 
-// The same for the shape that the container has.
+// Reads on the children of a container, by the shape that it has.
 #[inline(always)]
 fn children(
     looks: &mut Batch<'_>,

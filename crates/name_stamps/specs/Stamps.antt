@@ -107,7 +107,7 @@ pub record HasSlot (b : Built) (slot : Slot) (seen : SeenNames) : Type 0 where
   pub number : slot.number ≡ top_of b.opens
   pub table : ((slot.table ≡ depth_of b.opens * 520) × (depth_of b.opens < 8)) ⊎ ((slot.table ≡ 0) × Contains seen.suspects.items (top_of b.opens))
 
--- the same container is the innermost one
+-- one container is the innermost one of both
 abbrev pub IsSameTop : List Open → List Open → Type 0
 IsSameTop old new = (top_of new ≡ top_of old) × (depth_of new ≡ depth_of old)
 

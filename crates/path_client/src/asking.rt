@@ -5,7 +5,7 @@ use crate::documents::{dump, of_document, query};
 use crate::keys;
 use crate::loading::load;
 use crate::notes::of_query;
-use client_commands::{Asked, Context, Failure, Note, Verb};
+use client_commands::{Context, Failure, Note, Operation, Verb};
 use client_frames::{Usage, read_names, read_usage};
 use client_lines::append_names;
 use std::io::{self, Read, Write};
@@ -18,7 +18,7 @@ use wire_frames::Command;
 /// Runs a subcommand that needs a server.
 pub fn answer<R: Input + Print + Eprint + Net + Files + Clock + AllocGlobal>(
     rt: &R,
-    asked: &Asked<'_>,
+    asked: &Operation<'_>,
     context: &Context<'_>,
     note: &mut Option<Note>,
 ) -> Result<(), Failure> {
@@ -35,7 +35,7 @@ pub fn answer<R: Input + Print + Eprint + Net + Files + Clock + AllocGlobal>(
 // Answers a subcommand on all that the tenant keeps.
 fn of_tenant<R: Print + Net + Clock + AllocGlobal>(
     rt: &R,
-    asked: &Asked<'_>,
+    asked: &Operation<'_>,
     context: &Context<'_>,
     key: [u8; 16],
 ) -> Result<(), Failure> {
@@ -49,7 +49,7 @@ fn of_tenant<R: Print + Net + Clock + AllocGlobal>(
 // Answers a subcommand on a collection.
 fn of_collection<R: Input + Print + Eprint + Net + Files + Clock + AllocGlobal>(
     rt: &R,
-    asked: &Asked<'_>,
+    asked: &Operation<'_>,
     context: &Context<'_>,
     key: [u8; 16],
     note: &mut Option<Note>,

@@ -167,10 +167,10 @@ impl<S: Read + Write + Drop> Connection<S> {
             Err(error) if error.kind() == ErrorKind::Interrupted => return Ok(()),
             Err(error) => return Err(Failure::of_read(&error)),
         };
-        self.keep(&piece[..count])
+        self.keep_piece(&piece[..count])
     }
 
-    fn keep(&mut self, piece: &[u8]) -> Result<(), Failure> {
+    fn keep_piece(&mut self, piece: &[u8]) -> Result<(), Failure> {
         if self.passed > 0 {
             let Ok(left) = Vec::from_slice(self.alloc, self.left()) else {
                 return Err(Failure::Memory);

@@ -3,7 +3,7 @@
 use crate::asking::{print, print_names};
 use crate::connection::Connection;
 use crate::notes::{of_text, text_fault};
-use client_commands::{Asked, Failure, Note, Verb};
+use client_commands::{Failure, Note, Operation, Verb};
 use client_frames::{Hit, read_hits, read_names};
 use client_lines::{append_document, append_hits, append_hits_in, append_json_hits, documents_of};
 use json_tape::TEXT_LIMIT;
@@ -39,7 +39,7 @@ pub fn of_document<R: Input + Print + Files + AllocGlobal, S: Read + Write + Dro
     rt: &R,
     connection: &mut Connection<S>,
     collection: CollName<'_>,
-    asked: &Asked<'_>,
+    asked: &Operation<'_>,
     shows: bool,
     note: &mut Option<Note>,
 ) -> Result<(), Failure> {
@@ -107,7 +107,7 @@ pub fn query<R: Print + AllocGlobal, S: Read + Write + Drop>(
     rt: &R,
     connection: &mut Connection<S>,
     collection: CollName<'_>,
-    asked: &Asked<'_>,
+    asked: &Operation<'_>,
 ) -> Result<(), Failure> {
     match asked.within {
         Some(name) => query_one(rt, connection, collection, name, asked),
@@ -119,7 +119,7 @@ fn query_all<R: Print + AllocGlobal, S: Read + Write + Drop>(
     rt: &R,
     connection: &mut Connection<S>,
     collection: CollName<'_>,
-    asked: &Asked<'_>,
+    asked: &Operation<'_>,
 ) -> Result<(), Failure> {
     let query = asked.query.as_bytes();
     let payload = connection.ask(&Command::Query { collection, query })?;
@@ -160,7 +160,7 @@ fn query_one<R: Print + AllocGlobal, S: Read + Write + Drop>(
     connection: &mut Connection<S>,
     collection: CollName<'_>,
     name: &str,
-    asked: &Asked<'_>,
+    asked: &Operation<'_>,
 ) -> Result<(), Failure> {
     let Some(document) = DocName::read(name.as_bytes()) else {
         return Err(Failure::DocumentName);
@@ -178,7 +178,7 @@ fn print_found<R: Print + AllocGlobal>(
     query: &ValidQuery,
     document: DocName<'_>,
     text: &[u8],
-    asked: &Asked<'_>,
+    asked: &Operation<'_>,
 ) -> Result<(), Failure> {
     let limit = if asked.names { 1 } else { asked.limit };
     let limit = usize::try_from(limit).unwrap_or(usize::MAX);

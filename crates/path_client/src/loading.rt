@@ -3,7 +3,7 @@
 use crate::asking::micros_since;
 use crate::connection::Connection;
 use crate::notes::{fault_of, of_text};
-use client_commands::{Asked, Failure, Members, Note, Quoted, status_name};
+use client_commands::{Failure, Members, Note, Operation, Quoted, status_name};
 use client_frames::SendFault;
 use client_lines::{LineFault, NamedText, name_in, read_document, read_name_query};
 use json_tape::TextFault;
@@ -109,7 +109,7 @@ impl<'a> fmt::Display for Refused<'a> {
     }
 }
 
-// The same as an object of JSON.
+// A refused line as an object of JSON.
 #[derive(Clone, Copy)]
 struct JsonLine<'a>(&'a Refused<'a>);
 
@@ -161,7 +161,7 @@ pub fn load<R: Input + Print + Eprint + Files + Clock + AllocGlobal, S: Read + W
     rt: &R,
     connection: &mut Connection<S>,
     collection: CollName<'_>,
-    asked: &Asked<'_>,
+    asked: &Operation<'_>,
     is_terminal: bool,
 ) -> Result<(), Failure> {
     let naming = naming_of(rt.alloc(), asked.name)?;
@@ -213,7 +213,7 @@ fn load_all<R: Eprint + Clock + AllocGlobal, S: Read + Write + Drop, I: Read + D
         Err(_) => return Err(Failure::Memory),
     }
     loading.settle(rt, connection, 0)?;
-    progress.tell(rt, loading.counts, 0);
+    progress.tell_counts(rt, loading.counts, 0);
     Ok(loading.counts)
 }
 
@@ -252,7 +252,7 @@ impl Progress {
     }
 
     // Tells how far a load is, where so many microseconds are past since it was told.
-    fn tell<R: Eprint + Clock>(&mut self, rt: &R, counts: Counts, pause: u64) {
+    fn tell_counts<R: Eprint + Clock>(&mut self, rt: &R, counts: Counts, pause: u64) {
         let Some(began) = &self.began else {
             return;
         };
@@ -328,13 +328,13 @@ impl Loading {
     ) -> Result<(), Failure> {
         if self.is_full() {
             self.settle(rt, connection, self.most_left())?;
-            progress.tell(rt, self.counts, PROGRESS);
+            progress.tell_counts(rt, self.counts, PROGRESS);
         }
         Ok(())
     }
 
     // Tells of a line that was not put, and counts it.
-    fn tell<R: Eprint>(&mut self, rt: &R, refused: &Refused<'_>) {
+    fn tell_refused<R: Eprint>(&mut self, rt: &R, refused: &Refused<'_>) {
         self.counts.refused = self.counts.refused.saturating_add(1);
         let _ = if self.form.json {
             eprintln!(rt; "{}", JsonLine(refused))
@@ -383,7 +383,7 @@ impl Loading {
             return Err(Failure::Memory);
         }
         let note = note_of(rt.alloc(), line, fault, self.form.shows);
-        self.tell(
+        self.tell_refused(
             rt,
             &Refused {
                 line: line.number,
@@ -398,7 +398,7 @@ impl Loading {
 
     // Tells of a document that its name or its length shuts out.
     fn shut_out<R: Eprint>(&mut self, rt: &R, line: u64, name: &str, document: &str) {
-        self.tell(
+        self.tell_refused(
             rt,
             &Refused {
                 line,
@@ -497,7 +497,7 @@ impl Loading {
                     Some(fault) => of_text(rt.alloc(), text, 1, fault, self.form.shows),
                     None => None,
                 };
-                self.tell(
+                self.tell_refused(
                     rt,
                     &Refused {
                         line: put.line,

@@ -8,7 +8,7 @@ mod keys;
 mod loading;
 mod notes;
 
-use client_commands::{Asked, Context, Failure, Note, Options, Verb, read_options};
+use client_commands::{Context, Failure, Note, Operation, Options, Verb, read_options};
 use command_words::read_words;
 use std::env::{self, VarError};
 use std::io::IsTerminal;
@@ -45,7 +45,7 @@ fn given<R: Env + AllocGlobal>(
 
 fn answer<R: Input + Print + Eprint + Net + Files + Clock + AllocGlobal>(
     rt: &R,
-    asked: &Asked<'_>,
+    asked: &Operation<'_>,
     context: &Context<'_>,
     note: &mut Option<Note>,
 ) -> Result<(), Failure> {

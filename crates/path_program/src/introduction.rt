@@ -1,7 +1,7 @@
 //! What a server is told of itself before it serves.
 
-use command_line::{Failure, VERSION};
 use event_loop::About;
+use server_arguments::{Failure, VERSION};
 use std::alloc::{AllocError, Global};
 use std::env::{self, VarError};
 use std::rt::Env;

@@ -1,8 +1,8 @@
 //! The keys of a file, and what their tenants are called.
 
 use crate::named_keys::NamedKeys;
-use command_line::{Failure, KeyLine};
 use path_server::{KeysFault, read_keys};
+use server_arguments::{Failure, KeyLine};
 use std::alloc::Global;
 use std::fs;
 use std::io::Read;

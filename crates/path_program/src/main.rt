@@ -6,13 +6,13 @@ mod key_file;
 mod many;
 mod named_keys;
 
-use command_line::{Failure, Request, read_request};
 use command_words::read_words;
-use connection_lines::EndLines;
+use log_lines::EndLines;
 use path_hub::Hub;
 use path_server::{
     QueryStreamFault, TEXT_LIMIT, call_stream, query_to, read_call, read_keys, replay_stream,
 };
+use server_arguments::{Failure, Request, read_request};
 use socket_wire::{StreamListener, StreamWire, serve_streams};
 use standard_streams::{WriteFault, read_past};
 use std::io;

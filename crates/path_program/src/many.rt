@@ -1,18 +1,18 @@
 //! A server of many connections at once.
 
 ghost use Rattle.std.specs.Prelude.{◌≡◌};
-ghost use Rattle.command_line.specs.Statuses.{status_of};
+ghost use Rattle.server_arguments.specs.Statuses.{status_of};
 
 use crate::introduction::about;
 use crate::key_file::read_key_file;
 use crate::named_keys::NamedKeys;
-use command_line::{Failure, Listening};
-use connection_lines::LoopLines;
 use event_loop::{Gate, Limits, LoopCore, LoopFault, Server, Since, Sockets, Totals};
-use hub_metrics::MeasuredHub;
+use hub_core::HubCore;
+use hub_server::MeasuredHub;
+use log_lines::LoopLines;
 use path_hub::Hub;
-use path_listen::HubCore;
 use path_server::read_keys;
+use server_arguments::{Failure, Listening};
 use standard_streams::WriteFault;
 use std::alloc::{AllocError, Global};
 use std::io::ErrorKind;
@@ -69,12 +69,12 @@ fn begin<'r, R: Print + Env + Net + Clock + AllocGlobal, P: Print + Drop, C: Loo
 ) -> Result<LoopLines<'r, R, P>, Failure> {
     let administration = administer(rt, wanted, server, keys)?;
     let lines = lines(rt, errors, wanted, keys)?;
-    tell(rt, wanted, administration, server)?;
+    tell_addresses(rt, wanted, administration, server)?;
     Ok(lines)
 }
 
 // Prints the lines with the bound addresses.
-fn tell<R: Print + Net + Clock + AllocGlobal, C: LoopCore>(
+fn tell_addresses<R: Print + Net + Clock + AllocGlobal, C: LoopCore>(
     rt: &R,
     wanted: &Listening<'_>,
     administration: Option<SocketAddr>,
@@ -164,7 +164,7 @@ fn run<'r, R: Net + Clock + AllocGlobal, P: Print + Drop>(
     server: &mut Bound<'r, R, MeasuredHub>,
     mut lines: LoopLines<'r, R, P>,
 ) -> Result<(), Failure> {
-    match hub_metrics::serve(server, &mut lines) {
+    match hub_server::serve(server, &mut lines) {
         Ok(()) => Ok(()),
         Err(fault) => Err(failure_of(rt.alloc(), wanted.address, fault)),
     }

@@ -100,7 +100,7 @@ impl<'a> Reading<'a> {
     }
 
     // Keeps a broken rule, if it is the first.
-    fn mark(&mut self, at: usize, rule: Rule) {
+    fn mark_rule(&mut self, at: usize, rule: Rule) {
         match self.broken {
             Some((before, _)) if before <= at => {}
             _ => self.broken = Some((at, rule)),
@@ -315,7 +315,7 @@ impl<'a> Reading<'a> {
             Whole::Digits | Whole::Zero => {
                 let start = self.start;
                 if let Some(rule) = whole_rule(part_of(self.text, start, at)) {
-                    self.mark(start, rule);
+                    self.mark_rule(start, rule);
                 }
             }
             Whole::Before | Whole::Behind => {}
@@ -366,7 +366,7 @@ impl<'a> Reading<'a> {
             None if may_end(decimal) => {
                 let start = self.operand;
                 if let Some(rule) = literal_rule(part_of(self.text, start, at)) {
-                    self.mark(start, rule);
+                    self.mark_rule(start, rule);
                 }
                 self.again(Now::Behind(side, Operand::Literal))
             }
@@ -445,7 +445,7 @@ impl<'a> Reading<'a> {
             return Ok(Did::Take);
         }
         if b == b')' {
-            self.mark(at, Rule::OneArgument);
+            self.mark_rule(at, Rule::OneArgument);
             return Ok(self.end_call());
         }
         self.begin_argument(at);
@@ -498,7 +498,7 @@ impl<'a> Reading<'a> {
                 return Ok(Did::TooDeep);
             }
             if !is_known(word) {
-                self.mark(start, Rule::of_name(word));
+                self.mark_rule(start, Rule::of_name(word));
             }
             self.frames.push(Frame::Call {
                 start,
@@ -552,7 +552,7 @@ impl<'a> Reading<'a> {
         }
         if operand == Operand::Function && side != Side::Right {
             if !is_argument || b == b'&' || b == b'|' {
-                self.mark(self.operand, Rule::FunctionAsTest);
+                self.mark_rule(self.operand, Rule::FunctionAsTest);
             }
         }
         match (b, self.innermost()) {
@@ -584,11 +584,11 @@ impl<'a> Reading<'a> {
                 ),
             ) => {
                 if arguments > 1 {
-                    self.mark(argument, Rule::OneArgument);
+                    self.mark_rule(argument, Rule::OneArgument);
                 }
                 let kind = if plain { operand } else { Operand::Group };
                 if let Some(rule) = argument_rule(part_of(self.text, start, end), kind) {
-                    self.mark(argument, rule);
+                    self.mark_rule(argument, rule);
                 }
                 if b == b')' {
                     return self.end_call();

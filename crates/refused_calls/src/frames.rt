@@ -1,6 +1,6 @@
 //! The calls on frames.
 
-use crate::telling::{begins, ends, tell, tell_end, tell_fault, unprepared};
+use crate::telling::{begins, ends, tell_end, tell_fault, tell_left, unprepared};
 use std::io;
 use wire_frames::{Framer, Front, Next, write_reply};
 
@@ -26,7 +26,7 @@ fn new_framer_twice<R: Print + AllocGlobal>(rt: &R) -> io::Result<()> {
         let came = Framer::new(rt.alloc());
         ends(rt);
         match came {
-            Ok(framer) => tell(rt, "Ok", &[u8::from(framer.is_closed())]),
+            Ok(framer) => tell_left(rt, "Ok", &[u8::from(framer.is_closed())]),
             Err(fault) => tell_fault(rt, &fault, b""),
         }
     }
@@ -59,8 +59,8 @@ fn next_frame_twice<R: Print + AllocGlobal>(rt: &R) -> io::Result<()> {
         let came = framer.next_frame();
         ends(rt);
         match came {
-            Ok(Next::Frame(body)) => tell(rt, "Ok", body.as_slice()),
-            Ok(_) => tell(rt, "no frame", b""),
+            Ok(Next::Frame(body)) => tell_left(rt, "Ok", body.as_slice()),
+            Ok(_) => tell_left(rt, "no frame", b""),
             Err(fault) => tell_fault(rt, &fault, b""),
         }
     }

@@ -1,7 +1,7 @@
 //! The calls of the hub.
 
 use crate::store::KEYS;
-use crate::telling::{begins, ends, tell, tell_end, tell_fault, unprepared};
+use crate::telling::{begins, ends, tell_end, tell_fault, tell_left, unprepared};
 use crate::wire::FixedWire;
 use path_hub::{ConnEnd, Event, Hub, Reply, run, serve_connection};
 use std::alloc::{AllocError, Global};
@@ -36,7 +36,7 @@ fn new_hub_twice<R: Print + AllocGlobal>(rt: &R) -> io::Result<()> {
         let came = Hub::new(rt.alloc(), &KEYS);
         ends(rt);
         match came {
-            Ok(hub) => tell(rt, "Ok", &[u8::from(hub.is_connected(0))]),
+            Ok(hub) => tell_left(rt, "Ok", &[u8::from(hub.is_connected(0))]),
             Err(fault) => tell_fault(rt, &fault, b""),
         }
     }
@@ -121,7 +121,7 @@ fn serve_twice<R: Print + AllocGlobal>(rt: &R) -> io::Result<()> {
         begins(rt);
         let came = serve_connection(rt.alloc(), &mut hub, conn, &mut wire);
         ends(rt);
-        tell(rt, end_name(came), wire.written());
+        tell_left(rt, end_name(came), wire.written());
     }
     Ok(())
 }

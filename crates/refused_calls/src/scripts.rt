@@ -1,7 +1,7 @@
 //! The calls on lines.
 
 use crate::store::KEYS;
-use crate::telling::{begins, ends, tell, tell_end, tell_fault};
+use crate::telling::{begins, ends, tell_end, tell_fault, tell_left};
 use crate::wire::FixedWire;
 use path_server::{call_over, read_keys, replay_script};
 use std::io;
@@ -32,8 +32,8 @@ fn read_keys_twice<R: Print + AllocGlobal>(rt: &R) -> io::Result<()> {
         ends(rt);
         match came {
             Ok(keys) => match keys.as_slice() {
-                [key] => tell(rt, "Ok", key),
-                _ => tell(rt, "other keys", b""),
+                [key] => tell_left(rt, "Ok", key),
+                _ => tell_left(rt, "other keys", b""),
             },
             Err(fault) => tell_fault(rt, &fault, b""),
         }

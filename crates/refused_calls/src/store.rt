@@ -1,6 +1,6 @@
 //! The calls of the cache, of a tenant and of all tenants.
 
-use crate::telling::{begins, ends, tell, tell_end, tell_fault, unprepared};
+use crate::telling::{begins, ends, tell_end, tell_fault, tell_left, unprepared};
 use path_types::{ValidQuery, compile};
 use query_cache::Cache;
 use std::alloc::{AllocError, Global};
@@ -43,7 +43,7 @@ fn new_cache_twice<R: Print + AllocGlobal>(rt: &R) -> io::Result<()> {
         let came = Cache::new(rt.alloc(), 2);
         ends(rt);
         match came {
-            Ok(cache) => tell(rt, "Ok", &[u8::from(cache.holds(b"$.a"))]),
+            Ok(cache) => tell_left(rt, "Ok", &[u8::from(cache.holds(b"$.a"))]),
             Err(fault) => tell_fault(rt, &fault, b""),
         }
     }
@@ -65,8 +65,8 @@ fn look_up_twice<R: Print + AllocGlobal>(rt: &R) -> io::Result<()> {
         ends(rt);
         let held = [u8::from(cache.holds(b"$.a")), u8::from(cache.holds(b"$.b"))];
         match came {
-            Ok(1) => tell(rt, "Ok", &held),
-            Ok(_) => tell(rt, "another query", &held),
+            Ok(1) => tell_left(rt, "Ok", &held),
+            Ok(_) => tell_left(rt, "another query", &held),
             Err(fault) => tell_fault(rt, &fault, &held),
         }
     }
@@ -80,8 +80,8 @@ fn new_tenants_twice<R: Print + AllocGlobal>(rt: &R) -> io::Result<()> {
         let came = Tenants::new(rt.alloc(), &KEYS);
         ends(rt);
         match came {
-            Ok(tenants) if tenants.place_of(&KEYS[1]) == Some(1) => tell(rt, "Ok", &[1]),
-            Ok(_) => tell(rt, "another place", b""),
+            Ok(tenants) if tenants.place_of(&KEYS[1]) == Some(1) => tell_left(rt, "Ok", &[1]),
+            Ok(_) => tell_left(rt, "another place", b""),
             Err(fault) => tell_fault(rt, &fault, b""),
         }
     }
@@ -212,8 +212,8 @@ fn step_twice<R: Print + AllocGlobal>(rt: &R) -> io::Result<()> {
         let came = query_in_steps(&tenant, rt.alloc(), &query, c, &mut out);
         ends(rt);
         match came {
-            Ok(true) => tell(rt, "Ok", out.as_slice()),
-            Ok(false) => tell(rt, "other steps", out.as_slice()),
+            Ok(true) => tell_left(rt, "Ok", out.as_slice()),
+            Ok(false) => tell_left(rt, "other steps", out.as_slice()),
             Err(fault) => tell_fault(rt, &fault, out.as_slice()),
         }
     }

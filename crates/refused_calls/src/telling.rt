@@ -19,7 +19,7 @@ pub fn unprepared<R: Print>(rt: &R) -> io::Result<()> {
 }
 
 /// A name for what a call answered, and what it left.
-pub fn tell<R: Print + AllocGlobal>(rt: &R, name: &str, left: &[u8]) {
+pub fn tell_left<R: Print + AllocGlobal>(rt: &R, name: &str, left: &[u8]) {
     if let Ok(digits) = hex::encode(rt.alloc(), left) {
         let _ = println!(rt; "{name} {digits}");
     }
@@ -28,14 +28,14 @@ pub fn tell<R: Print + AllocGlobal>(rt: &R, name: &str, left: &[u8]) {
 /// Why a call was refused, and what it left.
 pub fn tell_fault<R: Print + AllocGlobal, E: Debug>(rt: &R, fault: &E, left: &[u8]) {
     if let Ok(name) = format!(in rt.alloc(); "{fault:?}") {
-        tell(rt, name.as_str(), left);
+        tell_left(rt, name.as_str(), left);
     }
 }
 
 /// The end of a call that answers nothing where it is done, and what it left.
 pub fn tell_end<R: Print + AllocGlobal, E: Debug + Drop>(rt: &R, came: Result<(), E>, left: &[u8]) {
     match came {
-        Ok(()) => tell(rt, "Ok", left),
+        Ok(()) => tell_left(rt, "Ok", left),
         Err(fault) => tell_fault(rt, &fault, left),
     }
 }

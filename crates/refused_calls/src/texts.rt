@@ -2,7 +2,7 @@
 
 ghost use Rattle.std.specs.Prelude.{◌≤◌, ◌+◌, ◌^◌, length};
 
-use crate::telling::{begins, ends, tell, tell_end, tell_fault, unprepared};
+use crate::telling::{begins, ends, tell_end, tell_fault, tell_left, unprepared};
 use json_tape::{BuildFault, Document, NodeId, build};
 use normal_paths::write_path;
 use path_grammar::parse;
@@ -50,7 +50,7 @@ fn index_twice<R: Print + AllocGlobal>(rt: &R, text: &[u8]) -> io::Result<()>
         let came = index(rt.alloc(), text);
         ends(rt);
         match came {
-            Ok(index) => tell(rt, "Ok", places(rt.alloc(), &index)?.as_slice()),
+            Ok(index) => tell_left(rt, "Ok", places(rt.alloc(), &index)?.as_slice()),
             Err(fault) => tell_fault(rt, &fault, b""),
         }
     }
@@ -69,7 +69,7 @@ fn index_and_copy_twice<R: Print + AllocGlobal>(rt: &R, text: &[u8]) -> io::Resu
             Ok((index, copy)) => {
                 let mut told = places(rt.alloc(), &index)?;
                 told.extend_from_slice(&copy)?;
-                tell(rt, "Ok", told.as_slice());
+                tell_left(rt, "Ok", told.as_slice());
             }
             Err(fault) => tell_fault(rt, &fault, b""),
         }
@@ -93,7 +93,7 @@ fn read_twice<R: Print + AllocGlobal>(rt: &R, text: &[u8]) {
         let came = Document::read(rt.alloc(), text);
         ends(rt);
         match came {
-            Ok(document) => tell(rt, "Ok", &document.node_count().to_be_bytes()),
+            Ok(document) => tell_left(rt, "Ok", &document.node_count().to_be_bytes()),
             Err(fault) => tell_fault(rt, &fault, b""),
         }
     }
@@ -107,7 +107,7 @@ fn read_owned_twice<R: Print + AllocGlobal>(rt: &R) -> io::Result<()> {
         let came = Document::read_owned(rt.alloc(), text);
         ends(rt);
         match came {
-            Ok(document) => tell(rt, "Ok", &document.node_count().to_be_bytes()),
+            Ok(document) => tell_left(rt, "Ok", &document.node_count().to_be_bytes()),
             Err(fault) => tell_fault(rt, &fault, b""),
         }
     }
@@ -124,9 +124,9 @@ fn build_twice<R: Print + AllocGlobal>(rt: &R) -> io::Result<()> {
         let came = build(rt.alloc(), &index, &mut looks);
         ends(rt);
         match came {
-            Ok(_) => tell(rt, "Ok", b""),
-            Err(BuildFault::Memory) => tell(rt, "Memory", b""),
-            Err(BuildFault::NotJson) => tell(rt, "NotJson", b""),
+            Ok(_) => tell_left(rt, "Ok", b""),
+            Err(BuildFault::Memory) => tell_left(rt, "Memory", b""),
+            Err(BuildFault::NotJson) => tell_left(rt, "NotJson", b""),
         }
     }
     Ok(())
@@ -139,7 +139,7 @@ fn parse_twice<R: Print + AllocGlobal>(rt: &R) -> io::Result<()> {
         let came = parse(rt.alloc(), b"$.b[?@[ 'a' ]==1]");
         ends(rt);
         match came {
-            Ok(query) => tell(rt, "Ok", &query.segments.len().to_be_bytes()),
+            Ok(query) => tell_left(rt, "Ok", &query.segments.len().to_be_bytes()),
             Err(fault) => tell_fault(rt, &fault, b""),
         }
     }
@@ -159,7 +159,7 @@ fn select_twice<R: Print + AllocGlobal>(rt: &R) -> io::Result<()> {
         let came = select(rt.alloc(), &query, &document, BUDGET);
         ends(rt);
         match came {
-            Ok(selected) => tell(rt, "Ok", numbers(rt.alloc(), &selected)?.as_slice()),
+            Ok(selected) => tell_left(rt, "Ok", numbers(rt.alloc(), &selected)?.as_slice()),
             Err(fault) => tell_fault(rt, &fault, b""),
         }
     }

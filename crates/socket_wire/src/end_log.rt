@@ -21,7 +21,7 @@ pub trait EndLog {
     ghost told: { Self → Option (List Ending) } = { λ _. None };
 
     /// Takes one more.
-    fn tell(&mut self, ending: Ending)
+    fn tell_end(&mut self, ending: Ending)
         ensures { Tells (told self.old) ending (told self.new) };
 }
 
@@ -31,6 +31,6 @@ pub fn tell_fault<G: EndLog>(log: &mut G, number: u32, how: ConnEnd)
 {
     match how {
         ConnEnd::Done => {}
-        _ => log.tell(Ending { number, how }),
+        _ => log.tell_end(Ending { number, how }),
     }
 }

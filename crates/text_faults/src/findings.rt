@@ -70,7 +70,7 @@ impl Finding {
         self.lines_from(alloc, text, 1, shows)
     }
 
-    /// The same of a text whose first line has this number.
+    /// The lines that tell of a finding in a text whose first line has this number.
     pub fn lines_from(
         &self,
         alloc: Global,

@@ -32,7 +32,7 @@ pub fn spot_at(text: &[u8], at: usize) -> Spot {
     }
 }
 
-/// The same in a text whose first line has this number.
+/// The line and column of a byte of a text whose first line has this number.
 pub fn spot_from(text: &[u8], at: usize, first_line: usize) -> Spot {
     let spot = spot_at(text, at);
     Spot {
@@ -134,7 +134,7 @@ pub fn shown_at(alloc: Global, text: &[u8], at: usize) -> Result<String, AllocEr
     Ok(out)
 }
 
-/// The same if it is to be shown, and nothing otherwise.
+/// The shown line of a place if it is to be shown, and nothing otherwise.
 pub fn shown_if(shows: bool, alloc: Global, text: &[u8], at: usize) -> Result<String, AllocError> {
     if shows {
         shown_at(alloc, text, at)

@@ -113,13 +113,13 @@ fn learn(
 {
     let now = now_at(nows, number);
     let by = next(now, innermost, byte);
-    let step = found(nows, steps, by)?;
+    let step = found_step(nows, steps, by)?;
     steps[number * 1024 + row(innermost) + byte as usize] = step;
     Ok(step)
 }
 
 // The step of a move.
-fn found(nows: &mut Vec<Now>, steps: &mut Vec<Step>, by: Move) -> Result<Step, AllocError>
+fn found_step(nows: &mut Vec<Now>, steps: &mut Vec<Step>, by: Move) -> Result<Step, AllocError>
     requires { AreSteps nows.old.items steps.old.items }
     ensures steps { IfOk result (λ step. AreSteps nows.new.items steps.new.items × Keeps nows.old.items nows.new.items) }
     ensures step { IfOk result (λ step. IsInside nows.new.items step × (move_of nows.new.items step ≡ by)) }

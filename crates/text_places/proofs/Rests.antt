@@ -23,7 +23,7 @@ pub data Rest (whole : Tree) : (n level place : ℕ) → List ℕ → Type 0 whe
   words : {n level place c up : ℕ} {bs vs cs : List ℕ} {label : Label} {s : Scalar} → bs ≡ c ∷ vs ++ cs → IsScalarText (c ∷ vs) s → AreAtoms (c ∷ vs) → NoAtomFirst cs → IsAt whole 0 Top 0 n up label (Leaf (at place (c ∷ vs)) s)
       → Rest whole (n + 1) level (place + length (c ∷ vs)) cs → Rest whole n level place bs
 
--- the same bytes, where the numbers are written otherwise
+-- a rest of the bytes, where the numbers are written otherwise
 over : {whole : Tree} {n m level place p : ℕ} {bs : List ℕ} → m ≡ n → p ≡ place → Rest whole m level p bs → Rest whole n level place bs
 over {whole} {n} {m} {level} {place} {p} {bs} e f r = subst (λ k. Rest whole k level place bs) e (subst (λ k. Rest whole m level k bs) f r)
 

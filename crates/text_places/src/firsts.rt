@@ -60,7 +60,7 @@ fn is_json(alloc: Global, text: &str) -> Result<bool, AllocError>
     Ok(place.at == text.len() && place.expected == Expected::End)
 }
 
-// The same in a text that is JSON.
+// The first place that is sought in a text that is JSON.
 fn first_in(text: &[u8], sought: Sought) -> Option<usize>
     requires { IsJson text.now }
     ensures found { IfSome result (λ at. IsFirst (is_sought sought) text.now at) }

@@ -45,7 +45,7 @@ pub fn left(
     Ok(marks)
 }
 
-// The same with a number that is not 0 for each member of a suspect.
+// A number for each value of a text, which is not 0 for the members of suspects.
 fn suspected(
     alloc: Global,
     text: &str,
@@ -131,13 +131,13 @@ fn mark_names(text: &str, tape: &Tape, marks: &mut Vec<u32>, factor: u64)
 {
     for n in 0..tape.len() {
         if marks[n as usize] != 0 {
-            marks[n as usize] = mark(text, tape.entry(n), factor);
+            marks[n as usize] = mark_for(text, tape.entry(n), factor);
         }
     }
 }
 
 #[inline(always)]
-fn mark(text: &str, entry: Entry, factor: u64) -> u32
+fn mark_for(text: &str, entry: Entry, factor: u64) -> u32
     requires { entry.role ≡ Role.Member → IsQuoted text.now entry.label }
     ensures { entry.role ≡ Role.Member → result ≡ mark_for factor text.now entry }
 {

@@ -19,7 +19,7 @@ begun c = let way = c.self.invariant.3 in
     (subst (λ n. IsUnderWay (string_bytes c.self.inside.text) c.self.inside.index way.0 n c.self.inside.seen.value c.self.inside.way) (sym (ap (λ (p : List ℕ × ℕ). p.1) c.new-looks.ensures))
     (counted_anew (string_bytes c.self.inside.text) c.self.inside.index way.0 way.1 c.self.inside.seen.value c.self.inside.way way.2))
 
--- the same of the names as they are lent
+-- the walk is under way with the names as they are lent
 lent : (c : After-new-looks) → {seen : SeenNames} → seen ≡ c.self.inside.seen.value → IsUnderWay c.new-looks.result.0 c.self.inside.index c.self.invariant.3.0 c.new-looks.result.1 seen c.self.inside.way
 lent c same = subst (λ s. IsUnderWay c.new-looks.result.0 c.self.inside.index c.self.invariant.3.0 c.new-looks.result.1 s c.self.inside.way) (sym same) (begun c)
 
