@@ -1,12 +1,13 @@
 #!/usr/bin/env python3
-"""Tests bin/tools/imports.py: which imports of a file are told as unused. tests/imported_names.py."""
+"""Tests bin/tools/imports.py: which imports of a file are told as unused, and which cite the proofs of another crate. tests/imported_names.py."""
+import re
 import sys
 import tempfile
 from pathlib import Path
 
 TOP = Path(__file__).resolve().parent.parent
 sys.path.insert(0, str(TOP / "bin/tools"))
-from imports import unused_in
+from imports import CITED, cited_in, unused_in
 from lib.running_server import Report
 
 CASES = [
@@ -24,6 +25,15 @@ CASES = [
     ("a record of one's own", "a.antt", "use Rattle.a.b.f.Given as goal\nuse Rattle.a.b.g.Given as other\n\nproof : goal.result\n", ["other"]),
     ("an end of a `do`", "a.antt", "use Rattle.a.Reading.{◌>>=◌}\n\nread = do\n    first\n", []),
 ]
+CITING = [
+    ("another crate above the reader", "query_machine/proofs/Steps.antt", "use Rattle.node_lists.proofs.Adding.{append_nil}\n", ["node_lists"]),
+    ("an answer of a function", "query_machine/proofs/runs/go_on/Answers.antt", "use Rattle.node_lists.proofs.Adding as adding\n", ["node_lists"]),
+    ("a definition", "query_machine/specs/Levels.antt", "use Rattle.node_lists.proofs.Adding.{append_nil}\n", ["node_lists"]),
+    ("another crate's definitions", "query_machine/proofs/Steps.antt", "use Rattle.node_lists.specs.Laws.{SplitsNodes}\n", []),
+    ("its own", "node_lists/proofs/Below.antt", "use Rattle.node_lists.proofs.Adding.{append_nil}\n", []),
+    ("the standard library", "node_lists/proofs/Below.antt", "use Rattle.std.proofs.Common.{arith}\n", []),
+    ("a crate of the reader", "json_walk/proofs/Below.antt", "use Rattle.node_lists.proofs.Adding.{append_nil}\n", []),
+]
 
 
 def main():
@@ -34,6 +44,17 @@ def main():
             source.parent.mkdir(parents=True)
             source.write_text(text, encoding="utf-8")
             report.case(name, text, wanted, [spare for _, names in unused_in(Path(made)) for spare in names])
+    for name, file, text, wanted in CITING:
+        with tempfile.TemporaryDirectory(prefix="path-server-imports-") as made:
+            source = Path(made) / file
+            source.parent.mkdir(parents=True)
+            source.write_text(text, encoding="utf-8")
+            (Path(made) / "node_lists").mkdir(exist_ok=True)
+            report.case(f"cites: {name}", text, wanted, [other for _, others in cited_in(Path(made)) for other in others])
+    now = {(path.relative_to(TOP / "crates").parts[0], other) for path in (TOP / "crates").glob("*/proofs/**/*.antt")
+           for other in re.findall(r"^use Rattle\.(\w+)\.proofs\.", path.read_text(encoding="utf-8"), re.M)}
+    for pair in sorted(CITED):
+        report.case("a pair that is left cites still", pair, True, pair in now)
     report.close("imported names")
 
 

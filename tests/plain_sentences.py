@@ -16,7 +16,7 @@ from lib.running_server import TOP, Report
 from pages import pages, parts
 
 WORDS, CELL, COLUMNS = 30, 200, 5
-COMMAND_LINES = ("command_line", "client_commands")
+COMMAND_LINES = ("server_arguments", "client_commands")
 STRING = re.compile(r'"((?:[^"\\]|\\.)*)"')
 COMMENT = re.compile(r"\s*//[/!] ?(.*)")
 # how a sentence begins that has a pronoun or a clause where a noun is clearer. A question may begin so, and a heading

@@ -16,7 +16,7 @@ CELL = 190
 COMMENT = re.compile(r"\s*(?://|--)")
 # what is added, the neighbour that it stands beside, and the lines that name that one: everywhere, or in some crates. The first kind has to be there;
 # the others are numbers that a table's length would do instead of
-TABLES = ("admin_pages", "client_commands", "connection_lines", "protocol")
+TABLES = ("admin_pages", "client_commands", "log_lines", "protocol")
 WALKS = {
     "a status": ("Exists", [(r"(?<!Condition::)(?<!Condition-F\.)\bExists\b(?!\()", None), (r"(?<![.\d])(?:24|25|225)\b", TABLES)]),
     "a metric": ("path_server_tenant_refused_bytes_total", [(r"TenantRefused|tenant_refused|\bserved\.refused\b", None), (r"\bTENANT_TOTALS: usize = \d|(?<![.\d])26\b", TABLES)]),

@@ -108,7 +108,7 @@ class HoledCopy:
     def check(self, judged, seconds, is_saved=False):
         """What the prover says of these functions, as lines, which are none where it takes longer than so many seconds, and the processor seconds that
         it took, with how long each of its stages took on the clock. What is saved serves later checks."""
-        only = [word for it in judged or [""] for word in ("--only", it)]
+        only = [word for it in judged for word in ("--only", it)]
         words = [*self.words, "--jobs", "1", "--incremental", "kept", "--allow-holes", "--stage-times", "stages", *only]
         words = words if is_saved else [*UNSAVED, *words]
         (self.at / "kept").mkdir(exist_ok=True)

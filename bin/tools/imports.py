@@ -1,4 +1,4 @@
-"""The names that a file imports and does not use.
+"""The names that a file imports and does not use, and the proofs of other crates that it cites.
 
 An import is the name of a `use` or `ghost use`, as it is called in the file. It is used where the name stands outside of imports and comments, or,
 of a name with blanks for its operands (`◌++◌`), where each of its parts does. Not told are names that are handed on (`pub use`), all names of
@@ -11,6 +11,12 @@ COMMENT = {".rt": re.compile(r"//.*$", re.M), ".antt": re.compile(r"(?:^|(?<=\s)
 TRAIT = re.compile(r"^\s*(?:pub(?:\([a-z]+\))? )?trait (\w+)", re.M)
 FOREIGN_TRAITS = {"BufRead", "Digest", "Display", "IsTerminal", "OpenListener", "OpenStream", "Read", "ToSocketAddrs", "Write"}
 """Traits of the kit's crates that the repository imports for their methods."""
+PROOFS = re.compile(r"^(?:ghost )?use Rattle\.(\w+)\.proofs\.", re.M)
+READER = {"bit_words", "byte_masks", "escape_runs", "string_spans", "structural_index", "json_text", "json_strings", "tape_cells", "name_stamps", "name_order",
+          "json_walk", "json_tape", "text_faults", "text_places"}
+"""The crates of the reader, and of the places of its refusals. Their proofs cite those of the crates below."""
+CITED = {("tape_values", "json_text"), ("tape_values", "json_strings"), ("tape_values", "json_tape"), ("event_loop", "outbox"), ("event_loop", "open_connections")}
+"""The crates above the reader of which one still cites the proofs of the other. No pair may be added."""
 
 
 def imported(statement):
@@ -48,3 +54,14 @@ def unused_in(crates):
     for path in files:
         if names := unused(path, traits):
             yield path, names
+
+
+def cited_in(crates):
+    """For each file of a crate above the reader that imports proofs of another crate of the repository: its path, and those crates (but CITED)."""
+    names = {path.name for path in crates.iterdir()}
+    for path in sorted(crates.glob("*/*/**/*.antt")):
+        crate, folder = path.relative_to(crates).parts[:2]
+        if folder in {"specs", "proofs"} and crate not in READER:
+            others = set(PROOFS.findall(path.read_text(encoding="utf-8"))) & names - {crate}
+            if wrong := sorted(it for it in others if (crate, it) not in CITED):
+                yield path, wrong

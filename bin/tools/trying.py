@@ -142,19 +142,22 @@ class Trial:
                     self.against(it)
 
     def control(self, at, folder, edits):
-        """Makes the copy in which the edits are tried; whether all functions that judge them are proved in it as they stand. Where another run proves the
-        crate, only what the functions say is read, and kept for the checks of edits."""
+        """Makes the copy in which the edits are tried; whether all functions that judge them are proved in it as they stand, which another run says where it
+        proves the crate."""
         judges = list(dict.fromkeys(path for it in edits for path in it.judges))
         words = [str(self.kit / "bin/rattle"), "check", *front_end(self.kit, self.crates, self.name, self.libraries.folder)]
         self.copy = HoledCopy(at, folder, self.name, words, judges)
-        lines = self.check(*("contracts", []) if self.is_proved else ("control", judges), is_saved=True)
-        whole = judges if self.is_proved else [it for it in judges if self.is_whole(it, lines)]
         against = [f"{it}, which an edit names, is no function of the crate" for it in self.copy.unknown]
-        against += [line for line in lines if is_open(line) or UNREAD.match(line)] + [f"{it} was not judged" for it in judges if it not in whole]
-        if against or not was_judged(lines):
-            self.said += [f"{self.name}: its edits were not tried, since it is not proved without one:", *(against or lines[-5:])[:5]]
-            return False
-        return True
+        if not against and not self.is_proved:
+            against = self.against_control(self.check("control", judges, is_saved=True), judges)
+        if against:
+            self.said += [f"{self.name}: its edits were not tried, since it is not proved without one:", *against[:5]]
+        return not against
+
+    def against_control(self, lines, judges):
+        """What the lines of a check of the functions as they stand say against them."""
+        against = [line for line in lines if is_open(line) or UNREAD.match(line)] + [f"{it} was not judged" for it in judges if not self.is_whole(it, lines)]
+        return against or ([] if was_judged(lines) else lines[-5:] or ["the check did not end"])
 
     def is_whole(self, path, lines):
         """Whether the lines of a check tell that a function is proved, but for what others promise."""

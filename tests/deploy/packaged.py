@@ -44,7 +44,7 @@ if words[0] == "enable":
         variables = dict(re.findall(r'^(\\w+)="?(.*?)"?$', given, re.M))
         keys = root + settings["LoadCredential"].partition(":")[2]
         line = settings["ExecStart"].replace("${CREDENTIALS_DIRECTORY}/keys", keys).replace("${ADDRESS}", variables["ADDRESS"]).replace("$OPTIONS", variables["OPTIONS"])
-        start(name, shlex.split(root + line), dict(word.split("=", 1) for word in settings["Environment"].split()))
+        start(name, shlex.split(root + line), {})
 elif words[0] in ("disable", "stop"):
     for unit in words[1:]:
         name = unit.partition("@")[2]

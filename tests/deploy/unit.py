@@ -19,6 +19,7 @@ from path_client import connect
 UNIT = TOP / "deploy/path_server@.service"
 RUN = "/usr/local/bin/path_server_run"
 EXPOSURE = 2.0
+ALLOCATOR = ["MALLOC_MMAP_THRESHOLD_=33554432", "MALLOC_TRIM_THRESHOLD_=268435456"]
 
 
 def analyzed(report, folder):
@@ -35,6 +36,13 @@ def analyzed(report, folder):
     report.case("systemd-analyze security", "", (True, 0), (bool(found) and float(found[1]) < EXPOSURE, ran.returncode))
 
 
+def allocator_of(run):
+    """The settings of the allocator in the environment of the program that path_server_run started."""
+    program = Path(f"/proc/{run}/task/{run}/children").read_text(encoding="ascii").split()[0]
+    variables = Path(f"/proc/{program}/environ").read_bytes().split(b"\0")
+    return sorted(it.decode() for it in variables if it.startswith(b"MALLOC_"))
+
+
 def started(report, folder):
     key, (port,) = os.urandom(16), free_ports(1)
     (folder / "keys").touch(0o600)
@@ -42,12 +50,12 @@ def started(report, folder):
     lines = [line.split("=", 1) for line in UNIT.read_text().splitlines() if re.match(r"\w+=", line)]
     settings = dict(lines)
     variables = {"ADDRESS": f"127.0.0.1:{port}", "OPTIONS": "--idle 600", "CREDENTIALS_DIRECTORY": str(folder)}
-    allocator = dict(word.split("=", 1) for word in settings["Environment"].split())
     text = re.sub(r"\$\{(\w+)\}", lambda it: variables[it[1]], settings["ExecStart"]).replace("$OPTIONS", variables["OPTIONS"])
     words = shlex.split(text.replace(RUN, str(TOP / "bin/path_server_run")))
-    with subprocess.Popen(words, stdin=subprocess.DEVNULL, stdout=subprocess.PIPE, env={**os.environ, **allocator, "PATH_SERVER": str(PROGRAM)}) as process:
+    with subprocess.Popen(words, stdin=subprocess.DEVNULL, stdout=subprocess.PIPE, env={**os.environ, "PATH_SERVER": str(PROGRAM)}) as process:
         try:
             report.case("ExecStart", words, f"listening 127.0.0.1:{port}\n".encode(), process.stdout.readline())
+            report.case("the allocator of the program", "", ALLOCATOR, allocator_of(process.pid))
             with connect(f"127.0.0.1:{port}", key) as client:
                 report.case("a tenant of it", "", (0, 0, 0), tuple(client.usage()))
             process.send_signal(signal.SIGTERM)
