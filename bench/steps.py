@@ -6,7 +6,8 @@ which has one thread, takes between the arrival of that GET and its reply, so th
 100 do not pass, and the longest, in milliseconds. Requests come together: the server is stopped (SIGSTOP) until the last byte of each has come. GETs
 come one after the other until all are answered, and the longest counts. Beside repeated work, GETs come at random moments. A row has 100 times, or as
 many as SECONDS (10) allow. With a WORD, only the rows that have it in their names are measured. The program is the one that bin/build makes, or the
-one that the environment's PATH_SERVER names. Where it may, as root, the script itself has a real-time priority, so that no GET comes late.
+one that the environment's PATH_SERVER names, with the allocator's settings of bin/path_server_run. Where it may, as root, the script itself has a
+real-time priority, so that no GET comes late.
 """
 import collections
 import contextlib
@@ -14,6 +15,7 @@ import itertools
 import multiprocessing
 import os
 import random
+import re
 import signal
 import sys
 import tempfile
@@ -22,7 +24,10 @@ import time
 from pathlib import Path
 
 os.environ["MEBIBYTES"] = "4"
-sys.path.append(str(Path(__file__).resolve().parent.parent / "tests"))
+TOP = Path(__file__).resolve().parent.parent
+# the allocator as bin/path_server_run sets it
+os.environ |= re.findall(r'(MALLOC_\w+)="\$\{\w+:-(\d+)\}"', (TOP / "bin/path_server_run").read_text(encoding="ascii"))
+sys.path.append(str(TOP / "tests"))
 
 from administration import KEYS, administered, connected
 from hostile import LEAVES, TEXT, escaped, filled, kept_pairs, long_names, many, members, numbered, sorted_strings, twins
