@@ -88,7 +88,7 @@ def way_of_a_request():
     it.arrow([(140, 60), (140, 96)], "at most 64 KiB", (150, 82))
     it.box(60, 96, 720, 56, "event_loop: a turn for each connection that can make progress", ["outbox: reads once, answers up to 64 requests, writes twice, never waits"])
     it.arrow([(140, 152), (140, 208)], "a piece of the stream", (150, 176))
-    it.frame(30, 184, 780, 400, "path_hub, as path_listen lends it to the loop", 280)
+    it.frame(30, 184, 780, 400, "path_hub, as hub_core lends it to the loop", 280)
     it.box(60, 208, 220, 52, "Framer", ["wire_frames: whole frames"])
     it.arrow([(170, 260), (170, 292)], "a frame", (180, 280))
     it.box(60, 292, 220, 52, "read_request", ["wire_frames: command, key, fields"])
