@@ -7,6 +7,7 @@ pub mod TreeBuilt
 pub mod Spots
 pub mod Readers
 pub mod Siblings
+pub mod Behind
 pub mod MembersSeen
 pub mod Unique
 pub mod WaySizes
