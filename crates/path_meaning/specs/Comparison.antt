@@ -1,7 +1,8 @@
 -- Comparison of values (RFC 9535, section 2.3.5.2.2).
-use Rattle.std.specs.Prelude.{ℕ, List, [], ◌∷◌, Bool, true, false, ◌&&◌, ◌||◌, Option, Some, None, bytes_eq, nat_lt, nat_eq}
+use Rattle.std.specs.Prelude.{◌≡◌, ℕ, List, [], ◌∷◌, Bool, true, false, ◌&&◌, ◌||◌, Option, Some, None, bytes_eq, nat_lt, nat_eq}
 use Rattle.std.specs.Prelude.{not as opposite}
-use Rattle.std.specs.Ordering.{is_eq, is_lt}
+use Rattle.std.specs.Ordering.{is_eq, is_lt, is_gt}
+use Rattle.std.specs.declared.cmp.Ordering.{Ordering}
 use Rattle.path_grammar.specs.Tree.{Literal, number, text, boolean, null}
 use Rattle.path_grammar.specs.declared.ast.Op.{Op}
 use Rattle.path_grammar.specs.declared.ast.Op.TheVariants.{Eq, Ne, Le, Ge, Lt, Gt}
@@ -111,3 +112,22 @@ compared Lt a b = less_results a b
 compared Gt a b = less_results b a
 compared Le a b = less_results a b || equal_results a b
 compared Ge a b = less_results b a || equal_results b a
+
+-- ---- The operators by what they ask of two sides
+
+-- whether a comparison holds, by whether its sides are equal, either way round, the left one is less, and the right one
+abbrev pub told_of : (equal back less greater : Bool) → Op → Bool
+told_of equal back less greater Eq = equal
+told_of equal back less greater Ne = opposite equal
+told_of equal back less greater Lt = less
+told_of equal back less greater Gt = greater
+told_of equal back less greater Le = less || equal
+told_of equal back less greater Ge = greater || back
+
+-- by how the sides stand in an order
+abbrev pub told : Op → Ordering → Bool
+told op o = told_of (is_eq o) (is_eq o) (is_lt o) (is_gt o) op
+
+-- each comparison of two values is told by these four facts about them
+abbrev pub TellsComparisons : Type 0
+TellsComparisons = (op : Op) (a b : Option Value) → compared op a b ≡ told_of (equal_results a b) (equal_results b a) (less_results a b) (less_results b a) op
