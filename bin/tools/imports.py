@@ -15,7 +15,7 @@ PROOFS = re.compile(r"^(?:ghost )?use Rattle\.(\w+)\.proofs\.", re.M)
 READER = {"bit_words", "byte_masks", "escape_runs", "string_spans", "structural_index", "json_text", "json_strings", "tape_cells", "name_stamps", "name_order",
           "json_walk", "json_tape", "text_faults", "text_places"}
 """The crates of the reader, and of the places of its refusals. Their proofs cite those of the crates below."""
-CITED = {("tape_values", "json_text"), ("tape_values", "json_strings"), ("tape_values", "json_tape"), ("event_loop", "outbox"), ("event_loop", "open_connections")}
+CITED = {("event_loop", "outbox"), ("event_loop", "open_connections")}
 """The crates above the reader of which one still cites the proofs of the other. No pair may be added."""
 
 

@@ -5,6 +5,5 @@ pub mod Twins
 pub mod Members
 pub mod Lines
 mod Dropped
-mod Behind
 mod Settled
 mod Orders

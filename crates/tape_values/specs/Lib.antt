@@ -6,5 +6,4 @@ pub mod Sides
 pub mod Pairs
 pub mod Settling
 pub mod Fronts
-pub mod Orders
 pub mod Contents

@@ -1,13 +1,12 @@
 //! Comparisons of a filter (RFC 9535, section 2.3.5.2.2).
 
-ghost use Rattle.std.specs.Prelude.{◌≡◌, ◌<◌, Some, None, IsTrue, MatchOption, IfSome};
+ghost use Rattle.std.specs.Prelude.{◌≡◌, ◌<◌, Some, None, false, IsTrue, MatchOption, IfSome};
 ghost use Rattle.path_grammar.specs.View.{literal_view};
 ghost use Rattle.path_types.specs.Validity.{is_literal};
 ghost use Rattle.json_tape.specs.Document.{count, node_at, single, IsIn};
-ghost use Rattle.tape_values.specs.Comparison.{a_number, literal_value, value_of, equal_results, less_results, compared};
+ghost use Rattle.tape_values.specs.Comparison.{a_number, literal_value, value_of, equal_results, less_results, compared, told_of};
 ghost use Rattle.tape_values.specs.Contents.{content_value, digits_text, AreDigits, IsContent};
 ghost use Rattle.tape_values.specs.Functions.{only_value, whole_number};
-ghost use Rattle.tape_values.specs.Orders.{meets};
 ghost use Rattle.tape_values.specs.Sides.{side_value, side_number, IsSide, IsNumberSide, IsNumberFound};
 
 use crate::digits::{Digits, compare_digits};
@@ -17,23 +16,8 @@ use crate::values::{Content, equal_contents, number_text, value_content};
 use decimal_order::orders_values;
 use json_tape::{Document, Kind, NodeId};
 use path_grammar::{Literal, Op};
+use path_meaning::{comparisons_are_told, tells, told_of};
 use path_types::judges_numbers;
-use std::cmp::Ordering;
-
-// Whether a comparison holds of two values that have this order.
-#[inline(always)]
-fn meets(op: Op, order: Ordering) -> bool
-    ensures { result ≡ meets op order }
-{
-    match op {
-        Op::Eq => order.is_eq(),
-        Op::Ne => order.is_ne(),
-        Op::Lt => order.is_lt(),
-        Op::Gt => order.is_gt(),
-        Op::Le => order.is_le(),
-        Op::Ge => order.is_ge(),
-    }
-}
 
 // What a literal is.
 fn literal_content<'a>(doc: &Document, literal: &'a Literal) -> Content<'a>
@@ -65,6 +49,21 @@ fn side_content<'a>(doc: &'a Document, side: &Side<'a>) -> Content<'a>
     }
 }
 
+// Whether contents of which neither is less are equal, as far as an operator asks it: `>=` asks it the other way round. They are compared once at most.
+fn equal_for(doc: &Document, op: Op, a: Content<'_>, b: Content<'_>) -> bool
+    requires left { IsContent doc.now a }
+    requires right { IsContent doc.now b }
+    requires less { less_results (content_value doc.now a) (content_value doc.now b) ≡ false }
+    requires greater { less_results (content_value doc.now b) (content_value doc.now a) ≡ false }
+    ensures { told_of result result false false op ≡ compared op (content_value doc.now a.entry) (content_value doc.now b.entry) }
+{
+    match op {
+        Op::Lt | Op::Gt => false,
+        Op::Ge => equal_contents(doc, b, a),
+        _ => equal_contents(doc, a, b),
+    }
+}
+
 /// Whether a comparison holds, whatever the sides are.
 #[inline(never)]
 #[tactic(auto, using(crate::proofs::Orders::orders))]
@@ -73,16 +72,15 @@ pub fn compare_contents(doc: &Document, op: Op, left: Side<'_>, right: Side<'_>)
     requires right { IsSide doc.now right }
     ensures { result ≡ compared op (side_value doc.now left.entry) (side_value doc.now right.entry) }
 {
+    comparisons_are_told();
     orders_values();
     match (side_content(doc, &left), side_content(doc, &right)) {
-        (Content::Text(a), Content::Text(b)) => meets(op, compare_strings(doc, a, b)),
-        (Content::Number(a), Content::Number(b)) => meets(op, compare_digits(a, b)),
-        (a, b) => match op {
-            Op::Eq | Op::Le => equal_contents(doc, a, b),
-            Op::Ne => !equal_contents(doc, a, b),
-            Op::Ge => equal_contents(doc, b, a),
-            Op::Lt | Op::Gt => false,
-        },
+        (Content::Text(a), Content::Text(b)) => tells(op, compare_strings(doc, a, b)),
+        (Content::Number(a), Content::Number(b)) => tells(op, compare_digits(a, b)),
+        (a, b) => {
+            let equal = equal_for(doc, op, a, b);
+            told_of(equal, equal, false, false, op)
+        }
     }
 }
 
@@ -112,7 +110,7 @@ pub fn compare_numbers(op: Op, a: Digits<'_>, b: Digits<'_>) -> bool
     ensures { result ≡ compared op (Some (a_number (digits_text a.entry))) (Some (a_number (digits_text b.entry))) }
 {
     orders_values();
-    meets(op, compare_digits(a, b))
+    tells(op, compare_digits(a, b))
 }
 
 // Whether a comparison of a node's value, or of Nothing, with a literal holds, whatever they are.

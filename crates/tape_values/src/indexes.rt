@@ -6,6 +6,7 @@ ghost use Rattle.json_tape.specs.Document.{count, node_at, following, single, Is
 ghost use Rattle.json_tape.specs.Nodes.{children, elements};
 ghost use Rattle.tape_values.specs.Selection.{nth, at_index, position_in};
 
+use json_tape::laws::elements_stand_by_place;
 use json_tape::{Document, Kind, Lead, NodeId};
 use path_grammar::IntLit;
 
@@ -113,6 +114,7 @@ fn element_by_number(doc: &Document, n: NodeId, total: u32, place: u32) -> Optio
     ensures inside { IsIn doc.now result }
 {
     let _ = doc.root();
+    elements_stand_by_place(doc);
     let mut low = n.0 + 1;
     let mut high = doc.after(n);
     let mut from = 0;

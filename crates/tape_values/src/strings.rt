@@ -7,6 +7,7 @@ ghost use Rattle.tape_values.specs.Contents.{letters_left, string_scalars, IsStr
 
 use crate::fronts::{FEW, rests};
 use crate::letters::{Letters, compare_letters};
+use json_tape::laws::strings_mean_their_bytes;
 use json_tape::{Document, NodeId, Scalars};
 use std::cmp::Ordering;
 
@@ -36,7 +37,7 @@ pub fn compare_strings(doc: &Document, a: StringValue<'_>, b: StringValue<'_>) -
     requires right { IsStringValue doc.now b }
     ensures { result ≡ slice_cmp nat_cmp (string_scalars doc.now a.entry) (string_scalars doc.now b.entry) }
 {
-    let _ = doc.root();
+    strings_mean_their_bytes(doc);
     if let (StringValue::Stored(x), StringValue::Stored(y)) = (a, b) {
         let bytes = doc.text(x);
         if FEW <= bytes.len() {

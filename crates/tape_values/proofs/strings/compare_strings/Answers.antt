@@ -1,20 +1,18 @@
 use Rattle.std.proofs.Common.{◌∙◌, sym, ap}
 use Rattle.json_tape.specs.Document.{node_at, string_meaning}
 use Rattle.tape_values.specs.Fronts.{meant_by}
-use Rattle.tape_values.proofs.Orders.{meant_is, rests_tie}
-use Rattle.tape_values.proofs.Behind.{is_document}
+use Rattle.tape_values.proofs.Orders.{rests_tie}
 use Rattle.tape_values.proofs.strings.compare_strings.Goals as goal
 
 pub returns-in-Some : goal.returns-in-Some
 returns-in-Some c =
     let d = c.args.doc.now in
-    let r = c.root.ensures in
-    let s = is_document d r.accepted r.tape r.small in
+    let meant = c.strings_mean_their_bytes.ensures in
     let both = c.in-Stored-Stored in
     let left = rw both.is-0 at c.requires.left in
     let right = rw both.is-1 at c.requires.right in
-    let e = meant_is d s both.x.0 left.0 left.1 ∙ ap meant_by (sym c.text-bytes.ensures.value) in
-    let f = meant_is d s both.y.0 right.0 right.1 ∙ ap meant_by (sym c.text.ensures.value) in
+    let e = meant both.x.0 left.0 left.1 ∙ ap meant_by (sym c.text-bytes.ensures.value) in
+    let f = meant both.y.0 right.0 right.1 ∙ ap meant_by (sym c.text.ensures.value) in
     let h = c.in-Some.ensures in
     rw (both.is-0, both.is-1)
     (c.compare_letters.ensures
