@@ -20,6 +20,7 @@ use crate::lengths::{Lengths, length_once};
 use decisions::{Constant, Decision, Relation, Scale};
 use json_tape::{Document, Kind, NodeId};
 use path_grammar::{Literal, Op};
+use path_meaning::told_of;
 use tape_values::{Side, compare_sides, compare_whole};
 
 // The most bytes of a string that is compared each time.
@@ -127,25 +128,23 @@ fn compare_kept(
     ensures after { AreRight doc.now answers.new.items }
 {
     let answer = match op {
-        Op::Eq | Op::Ne | Op::Lt | Op::Le => compare_once(doc, answers, a, b),
         Op::Gt | Op::Ge => compare_once(doc, answers, b, a),
+        _ => compare_once(doc, answers, a, b),
     };
-    match op {
-        Op::Eq => answer.is_equal,
-        Op::Ne => !answer.is_equal,
-        Op::Lt | Op::Gt => answer.is_less,
-        Op::Le | Op::Ge => answer.is_less || answer.is_equal,
-    }
+    told_of(
+        answer.is_equal,
+        answer.is_equal,
+        answer.is_less,
+        answer.is_less,
+        op,
+    )
 }
 
 // Whether a comparison of Nothing with Nothing holds.
 fn both_missing(op: Op) -> bool
     ensures { result ≡ compared op None None }
 {
-    match op {
-        Op::Eq | Op::Le | Op::Ge => true,
-        Op::Ne | Op::Lt | Op::Gt => false,
-    }
+    told_of(true, true, false, false, op)
 }
 
 // Whether a comparison of a value with Nothing holds, on whichever side that is.
@@ -153,10 +152,7 @@ fn one_missing(op: Op) -> bool
     ensures right { (v : Value) → result ≡ compared op (Some v) None }
     ensures left { (v : Value) → result ≡ compared op None (Some v) }
 {
-    match op {
-        Op::Ne => true,
-        Op::Eq | Op::Lt | Op::Le | Op::Gt | Op::Ge => false,
-    }
+    told_of(false, false, false, false, op)
 }
 
 /// Whether a comparison holds. Those of two arrays, objects, long strings or numbers with exponents are

@@ -1,5 +1,5 @@
 -- A value compared with itself.
-use Rattle.std.proofs.Common.{◌≡◌, ℕ, List, Bool, true, false, not, ◌||◌, ◌&&◌, Option, Some, None, refl, ap, ◌∙◌, arith}
+use Rattle.std.proofs.Common.{◌≡◌, ℕ, List, Bool, true, false, ◌||◌, ◌&&◌, Option, Some, None, refl, ap, ◌∙◌, arith}
 use Rattle.std.specs.Prelude.{nat_eq, bytes_eq}
 use Rattle.std.specs.Cmp.{IsTotalOrder}
 use Rattle.std.specs.Ordering.{is_eq, is_lt}
@@ -11,9 +11,7 @@ use Rattle.json_text.specs.Meaning.{meaning}
 use Rattle.json_text.specs.Tape.{member_count}
 use Rattle.json_text.specs.Tree.{Null, True, False, Num, Str, Tree, Leaf, Arr, Obj, Elements, NoElement, Element, Members, NoMember, Member}
 use Rattle.path_grammar.specs.declared.ast.Op.{Op}
-use Rattle.path_grammar.specs.declared.ast.Op.TheVariants.{Eq, Ne, Le, Ge, Lt, Gt}
-use Rattle.path_meaning.specs.Comparison.{Value, a_null, a_boolean, a_number, a_text, a_container, has_member, equal_trees, equal_elements, each_in, equal_results, less_results, compared}
-use Rattle.decisions.specs.Truth.{told}
+use Rattle.path_meaning.specs.Comparison.{Value, a_null, a_boolean, a_number, a_text, a_container, has_member, equal_trees, equal_elements, each_in, equal_results, less_results, compared, told, told_of, TellsComparisons}
 use Rattle.decisions.proofs.Orders.{same_letters, less_letters}
 
 same_text : (s : List ℕ) → bytes_eq s s ≡ true
@@ -82,10 +80,7 @@ module _ (order : IsTotalOrder number_cmp) where
   less_itself (Some (a_text s)) = less_letters s s ∙ ap is_lt (tied_itself nat_list_cmp_total s)
   less_itself (Some (a_container t)) = refl
 
-  pub compared_itself : (op : Op) (v : Option Value) → compared op v v ≡ told op Equal
-  compared_itself Eq v = equal_itself v
-  compared_itself Ne v = ap not (equal_itself v)
-  compared_itself Lt v = less_itself v
-  compared_itself Gt v = less_itself v
-  compared_itself Le v = λ i. less_itself v i || equal_itself v i
-  compared_itself Ge v = λ i. less_itself v i || equal_itself v i
+  pub compared_itself : TellsComparisons → (op : Op) (v : Option Value) → compared op v v ≡ told op Equal
+  compared_itself law op v =
+      let same : told_of (equal_results v v) (equal_results v v) (less_results v v) (less_results v v) op ≡ told op Equal = λ i. told_of (equal_itself v i) (equal_itself v i) (less_itself v i) (less_itself v i) op in
+      law op v v ∙ same

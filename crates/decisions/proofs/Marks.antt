@@ -14,7 +14,7 @@ use Rattle.std.proofs.lemmas.Nat.{same_from_place}
 use Rattle.decimal_order.specs.Order.{number_cmp}
 use Rattle.path_grammar.specs.Tree.{Literal}
 use Rattle.path_grammar.specs.declared.ast.Op.{Op}
-use Rattle.path_meaning.specs.Comparison.{Value, literal_value, compared}
+use Rattle.path_meaning.specs.Comparison.{Value, literal_value, compared, TellsComparisons}
 use Rattle.decisions.specs.Marks.{mark, cell, is_among, are_among}
 use Rattle.decisions.specs.Order.{kind, value_cmp}
 use Rattle.decisions.specs.Places.{place, HasTie}
@@ -89,11 +89,11 @@ module _ (n : IsTotalOrder number_cmp) where
       let same : value_cmp v m ≡ value_cmp w m = sym (place_tells value_cmp (value_total n) vs v m tie) ∙ ap (λ k. nat_cmp k (place value_cmp vs m)) p.places ∙ place_tells value_cmp (value_total n) vs w m tie in
       λ i. if nat_eq (p.kinds i) (kind m) then Some (same i) else None
 
-  pub marked_left : (vs : List (Option Value)) (v w : Option Value) (op : Op) (l : Literal) → HasTie value_cmp vs (Some (literal_value l)) → mark vs v ≡ mark vs w → compared op v (Some (literal_value l)) ≡ compared op w (Some (literal_value l))
-  marked_left vs v w op l tie e = compared_left n op v l ∙ ap (told_by op) (alike vs v w l tie e) ∙ sym (compared_left n op w l)
+  pub marked_left : TellsComparisons → (vs : List (Option Value)) (v w : Option Value) (op : Op) (l : Literal) → HasTie value_cmp vs (Some (literal_value l)) → mark vs v ≡ mark vs w → compared op v (Some (literal_value l)) ≡ compared op w (Some (literal_value l))
+  marked_left law vs v w op l tie e = compared_left n law op v l ∙ ap (told_by op) (alike vs v w l tie e) ∙ sym (compared_left n law op w l)
 
-  pub marked_right : (vs : List (Option Value)) (v w : Option Value) (op : Op) (l : Literal) → HasTie value_cmp vs (Some (literal_value l)) → mark vs v ≡ mark vs w → compared op (Some (literal_value l)) v ≡ compared op (Some (literal_value l)) w
-  marked_right vs v w op l tie e = compared_right n op v l ∙ ap (λ o. told_by op (turned o)) (alike vs v w l tie e) ∙ sym (compared_right n op w l)
+  pub marked_right : TellsComparisons → (vs : List (Option Value)) (v w : Option Value) (op : Op) (l : Literal) → HasTie value_cmp vs (Some (literal_value l)) → mark vs v ≡ mark vs w → compared op (Some (literal_value l)) v ≡ compared op (Some (literal_value l)) w
+  marked_right law vs v w op l tie e = compared_right n law op v l ∙ ap (λ o. told_by op (turned o)) (alike vs v w l tie e) ∙ sym (compared_right n law op w l)
 
   -- ---- Literals among values
 

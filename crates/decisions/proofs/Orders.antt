@@ -1,9 +1,9 @@
 -- The order of literals and values, and comparisons that are told by it.
-use Rattle.std.proofs.Common.{◌≡◌, ℕ, List, [], ◌∷◌, Bool, true, false, not, ◌||◌, Option, Some, None, refl, sym, ap, ◌∙◌, arith}
+use Rattle.std.proofs.Common.{◌≡◌, ℕ, List, [], ◌∷◌, Bool, true, false, not, Option, Some, None, refl, sym, ap, subst, ◌∙◌, arith}
 use Rattle.std.specs.Prelude.{bytes_eq, nat_eq}
 use Rattle.std.specs.Cmp.{IsTotalOrder, on_total, then_total}
 use Rattle.std.specs.Cmp.Lexicographic.{slice_cmp, lists_ties}
-use Rattle.std.specs.Ordering.{nat_cmp, ordering_then, ordering_reverse, is_eq, is_lt, is_gt, is_some_and}
+use Rattle.std.specs.Ordering.{nat_cmp, ordering_then, ordering_reverse, is_eq, is_lt, is_le, is_gt, is_some_and}
 use Rattle.std.specs.declared.cmp.Ordering.{Ordering}
 use Rattle.std.specs.declared.cmp.Ordering.TheVariants.{Less, Equal, Greater}
 use Rattle.std.proofs.lemmas.Cmp.{nat_cmp_total, nat_list_cmp_total, tied_itself}
@@ -11,10 +11,10 @@ use Rattle.std.proofs.lemmas.Grind.{common_steps}
 use Rattle.decimal_order.specs.Order.{number_cmp}
 use Rattle.path_grammar.specs.Tree.{Literal, number, text, boolean, null}
 use Rattle.path_grammar.specs.declared.ast.Op.{Op}
-use Rattle.path_grammar.specs.declared.ast.Op.TheVariants.{Eq, Ne, Le, Ge, Lt, Gt}
-use Rattle.path_meaning.specs.Comparison.{Value, a_null, a_boolean, a_number, a_text, literal_value, compared, equal_results, less_results, less_scalars}
+use Rattle.path_meaning.specs.Comparison.{Value, a_null, a_boolean, a_number, a_text, literal_value, compared, equal_results, less_results, less_scalars, told_of, TellsComparisons}
 use Rattle.decisions.specs.Order.{kind, digits_of, scalars_of, value_cmp}
-use Rattle.decisions.specs.Truth.{told, told_by, turned, versus}
+use Rattle.decisions.specs.Truth.{told_by, turned, versus, related, IsRelated}
+use Rattle.decisions.specs.declared.relation.Relation.{Relation}
 
 pub value_total : IsTotalOrder number_cmp → IsTotalOrder value_cmp
 unfolding value_cmp
@@ -101,25 +101,23 @@ turn a b (Some Less) h = record { equal = h.back; less = h.more; more = h.less; 
 turn a b (Some Equal) h = record { equal = h.back; less = h.more; more = h.less; back = h.equal }
 turn a b (Some Greater) h = record { equal = h.back; less = h.more; more = h.less; back = h.equal }
 
-tells : (op : Op) (a b : Option Value) (r : Option Ordering) → Answers a b r → compared op a b ≡ told_by op r
-tells Eq a b None h = h.equal
-tells Eq a b (Some o) h = h.equal
-tells Ne a b None h = ap not h.equal
-tells Ne a b (Some Less) h = ap not h.equal
-tells Ne a b (Some Equal) h = ap not h.equal
-tells Ne a b (Some Greater) h = ap not h.equal
-tells Lt a b None h = h.less
-tells Lt a b (Some o) h = h.less
-tells Gt a b None h = h.more
-tells Gt a b (Some o) h = h.more
-tells Le a b None h = λ i. h.less i || h.equal i
-tells Le a b (Some Less) h = λ i. h.less i || h.equal i
-tells Le a b (Some Equal) h = λ i. h.less i || h.equal i
-tells Le a b (Some Greater) h = λ i. h.less i || h.equal i
-tells Ge a b None h = λ i. h.more i || h.back i
-tells Ge a b (Some Less) h = λ i. h.more i || h.back i
-tells Ge a b (Some Equal) h = λ i. h.more i || h.back i
-tells Ge a b (Some Greater) h = λ i. h.more i || h.back i
+told_as : (op : Op) (a b : Option Value) (r : Option Ordering) → Answers a b r
+    → told_of (equal_results a b) (equal_results b a) (less_results a b) (less_results b a) op ≡ told_of (is_some_and is_eq r) (is_some_and is_eq r) (is_some_and is_lt r) (is_some_and is_gt r) op
+told_as op a b r h = λ i. told_of (h.equal i) (h.back i) (h.less i) (h.more i) op
+
+tells : TellsComparisons → (op : Op) (a b : Option Value) (r : Option Ordering) → Answers a b r → compared op a b ≡ told_by op r
+tells law op a b None h = law op a b ∙ told_as op a b None h
+tells law op a b (Some o) h = law op a b ∙ told_as op a b (Some o) h
+
+pub forth : TellsComparisons → (op : Op) (r : Relation) (v w : Option Value) → IsRelated r v w → compared op v w ≡ related r false op
+forth law op r v w h =
+    let same : related r false op ≡ told_of (equal_results v w) (equal_results w v) (less_results v w) (less_results w v) op = λ i. told_of (h.equal i) (h.back i) (h.less i) (h.greater i) op in
+    law op v w ∙ sym same
+
+pub back : TellsComparisons → (op : Op) (r : Relation) (v w : Option Value) → IsRelated r v w → compared op w v ≡ related r true op
+back law op r v w h =
+    let same : related r true op ≡ told_of (equal_results w v) (equal_results v w) (less_results w v) (less_results v w) op = λ i. told_of (h.back i) (h.equal i) (h.greater i) (h.less i) op in
+    law op w v ∙ sym same
 
 gt_reversed : (o : Ordering) → is_lt (ordering_reverse o) ≡ is_gt o
 gt_reversed Less = refl
@@ -156,17 +154,22 @@ module _ (n : IsTotalOrder number_cmp) where
   answers v (boolean false) = record { equal = refl; less = refl; more = refl; back = refl }
   answers v l = record { equal = refl; less = refl; more = refl; back = refl }
 
-  pub compared_left : (op : Op) (v : Option Value) (l : Literal) → compared op v (Some (literal_value l)) ≡ told_by op (versus v l)
-  compared_left op v l = tells op v (Some (literal_value l)) (versus v l) (answers v l)
+  pub compared_left : TellsComparisons → (op : Op) (v : Option Value) (l : Literal) → compared op v (Some (literal_value l)) ≡ told_by op (versus v l)
+  compared_left law op v l = tells law op v (Some (literal_value l)) (versus v l) (answers v l)
 
-  pub compared_right : (op : Op) (v : Option Value) (l : Literal) → compared op (Some (literal_value l)) v ≡ told_by op (turned (versus v l))
-  compared_right op v l = tells op (Some (literal_value l)) v (turned (versus v l)) (turn v (Some (literal_value l)) (versus v l) (answers v l))
+  pub compared_right : TellsComparisons → (op : Op) (v : Option Value) (l : Literal) → compared op (Some (literal_value l)) v ≡ told_by op (turned (versus v l))
+  compared_right law op v l = tells law op (Some (literal_value l)) v (turned (versus v l)) (turn v (Some (literal_value l)) (versus v l) (answers v l))
 
   -- of one kind, with the literal on the left
-  pub compared_alike : (op : Op) (v : Option Value) (l : Literal) → nat_cmp (kind (Some (literal_value l))) (kind v) ≡ Equal → compared op (Some (literal_value l)) v ≡ told op (value_cmp (Some (literal_value l)) v)
-  compared_alike op v l e =
+  pub answers_alike : (v : Option Value) (l : Literal) → nat_cmp (kind (Some (literal_value l))) (kind v) ≡ Equal → Answers (Some (literal_value l)) v (Some (value_cmp (Some (literal_value l)) v))
+  answers_alike v l e =
       let same : nat_eq (kind v) (kind (Some (literal_value l))) ≡ true = grind (arith, common_steps, e) in
       let this : versus v l ≡ Some (value_cmp v (Some (literal_value l))) = rw same refl in
-      compared_right op v l ∙ ap (λ r. told_by op (turned r)) this ∙ ap (told op) (sym ((value_total n).antisymm (Some (literal_value l)) v))
+      subst (Answers (Some (literal_value l)) v) (ap turned this ∙ ap Some (sym ((value_total n).antisymm (Some (literal_value l)) v))) (turn v (Some (literal_value l)) (versus v l) (answers v l))
 
-pub ruleset telling = (less_kind, greater_kind, compared_alike)
+pub not_greater : (o : Ordering) → not (is_gt o) ≡ is_le o
+not_greater Less = refl
+not_greater Equal = refl
+not_greater Greater = refl
+
+pub ruleset telling = (less_kind, greater_kind)

@@ -1,21 +1,24 @@
 -- Laws that the definitions have to meet.
-use Rattle.std.specs.Prelude.{◌≡◌, List, Option, Some}
+use Rattle.std.specs.Prelude.{◌≡◌, true, false, List, Option, Some}
 use Rattle.std.specs.Cmp.{IsTotalOrder}
 use Rattle.std.specs.Ordering.{nat_cmp}
 use Rattle.std.specs.declared.cmp.Ordering.TheVariants.{Equal}
 use Rattle.path_grammar.specs.Tree.{Literal}
 use Rattle.path_grammar.specs.declared.ast.Op.{Op}
-use Rattle.path_meaning.specs.Comparison.{Value, literal_value, compared}
+use Rattle.path_meaning.specs.Comparison.{Value, literal_value, compared, told}
 use Rattle.decisions.specs.Order.{kind, value_cmp}
-use Rattle.decisions.specs.Truth.{told, told_by, turned, versus}
+use Rattle.decisions.specs.Truth.{told_by, turned, versus, related, IsRelated}
+use Rattle.decisions.specs.declared.relation.Relation.{Relation}
 use Rattle.decisions.specs.Places.{place, HasTie}
 use Rattle.decisions.specs.Marks.{mark, cell}
 
--- comparisons with literals, and of a value with itself, are told as RFC 9535, section 2.3.5.2.2 has them
+-- comparisons with literals, of a value with itself, and of two values whose relation is known, are told as RFC 9535, section 2.3.5.2.2 has them
 pub record TellsAsCompared : Type 0 where
   pub left : (op : Op) (v : Option Value) (l : Literal) → compared op v (Some (literal_value l)) ≡ told_by op (versus v l)
   pub right : (op : Op) (v : Option Value) (l : Literal) → compared op (Some (literal_value l)) v ≡ told_by op (turned (versus v l))
   pub itself : (op : Op) (v : Option Value) → compared op v v ≡ told op Equal
+  pub forth : (op : Op) (r : Relation) (v w : Option Value) → IsRelated r v w → compared op v w ≡ related r false op
+  pub back : (op : Op) (r : Relation) (v w : Option Value) → IsRelated r v w → compared op w v ≡ related r true op
 
 -- In a total order, in which values that tie may differ, the place of a value compares with that of a literal as the value does with
 -- the literal.

@@ -1,35 +1,21 @@
 -- What a condition says of its side's value, by how that compares with each literal.
 use Rattle.std.specs.Prelude.{◌≡◌, Bool, true, false, ◌&&◌, ◌||◌, List, [], ◌∷◌, ◌++◌, Option, Some, None, nat_eq, if◌then◌else◌}
 use Rattle.std.specs.Prelude.{not as opposite}
-use Rattle.std.specs.Ordering.{is_eq, is_ne, is_lt, is_le, is_gt, is_ge, ordering_reverse}
+use Rattle.std.specs.Ordering.{ordering_reverse}
 use Rattle.std.specs.declared.cmp.Ordering.{Ordering}
 use Rattle.std.specs.declared.cmp.Ordering.TheVariants.{Equal}
 use Rattle.path_grammar.specs.Tree.{Literal}
 use Rattle.path_grammar.specs.declared.ast.Op.{Op}
-use Rattle.path_grammar.specs.declared.ast.Op.TheVariants.{Eq, Ne, Le, Ge, Lt, Gt}
-use Rattle.path_meaning.specs.Comparison.{Value, literal_value, equal_results, less_results, compared}
+use Rattle.path_meaning.specs.Comparison.{Value, literal_value, equal_results, less_results, compared, told, told_of}
 use Rattle.decisions.specs.Order.{kind, value_cmp}
 use Rattle.decisions.specs.Tree.{Tested, Tests, any, each, negated, value, against, two, present, itself, rooted, no_tests, tested}
 use Rattle.decisions.specs.declared.relation.Relation.{Relation}
 
--- whether a comparison holds, by how its left side compares with its right one
-abbrev pub told : Op → Ordering → Bool
-told Eq o = is_eq o
-told Ne o = is_ne o
-told Lt o = is_lt o
-told Le o = is_le o
-told Gt o = is_gt o
-told Ge o = is_ge o
-
--- whether it holds where they are of two kinds
+-- whether a comparison holds where its sides are of two kinds
 abbrev pub told_apart : Op → Bool
-told_apart Eq = false
-told_apart Ne = true
-told_apart Lt = false
-told_apart Le = false
-told_apart Gt = false
-told_apart Ge = false
+told_apart op = told_of false false false false op
 
+-- whether it holds, by how its left side compares with its right one, and None where they are of two kinds
 abbrev pub told_by : Op → Option Ordering → Bool
 told_by op None = told_apart op
 told_by op (Some o) = told op o
@@ -39,14 +25,10 @@ abbrev pub turned : Option Ordering → Option Ordering
 turned None = None
 turned (Some o) = Some (ordering_reverse o)
 
--- whether a comparison holds, by whether its sides are equal, either way round, the left one is less, and the right one
-abbrev pub told_of : (equal back less greater : Bool) → Op → Bool
-told_of equal back less greater Eq = equal
-told_of equal back less greater Ne = opposite equal
-told_of equal back less greater Lt = less
-told_of equal back less greater Gt = greater
-told_of equal back less greater Le = less || equal
-told_of equal back less greater Ge = greater || back
+-- the other way round where the literal stands on the left
+abbrev pub turned_if : (is_turned : Bool) → Option Ordering → Option Ordering
+turned_if false o = o
+turned_if true o = turned o
 
 -- whether a comparison of `@` with `$` holds, or of `$` with `@`
 abbrev pub related : Relation → (turned : Bool) → Op → Bool

@@ -3,13 +3,15 @@
 ghost use Rattle.decisions.specs.Laws.{TellsAsCompared, TellsByMarks, TellsByPlaces};
 
 use decimal_order::orders_values;
+use path_meaning::comparisons_are_told;
 
-/// Comparisons with literals are told as RFC 9535, section 2.3.5.2.2 has them.
+/// Comparisons with literals, of a value with itself, and of two values whose relation is known, are told as RFC 9535, section 2.3.5.2.2 has them.
 ///
 /// It does nothing: a caller that tells comparisons by the order of values has the law from its contract.
 pub fn tells_as_compared()
     ensures { TellsAsCompared }
 {
+    comparisons_are_told();
     orders_values();
 }
 
@@ -28,5 +30,6 @@ pub fn tells_by_places()
 pub fn tells_by_marks()
     ensures { TellsByMarks }
 {
+    comparisons_are_told();
     orders_values();
 }

@@ -78,6 +78,6 @@ pub fn is_at_most<S: ComparedSide>(literal: &Constant, side: &S) -> bool
     match literal_kind(&literal.literal).cmp(&side.kind_number()) {
         Ordering::Less => true,
         Ordering::Greater => false,
-        Ordering::Equal => side.compare_back(literal, Op::Le),
+        Ordering::Equal => !side.compare_back(literal, Op::Gt),
     }
 }

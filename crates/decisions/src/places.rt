@@ -63,8 +63,8 @@ pub fn total_place<S: ComparedSide>(total: usize, side: &S) -> usize
         Ordering::Greater => 0,
         Ordering::Equal => {
             let below = side.compare_total(total, Op::Lt);
-            let most = side.compare_total(total, Op::Le);
-            count(below, most)
+            let above = side.compare_total(total, Op::Gt);
+            count(below, !above)
         }
     }
 }

@@ -1,9 +1,10 @@
 //! How `@` compares with `$`.
 
 ghost use Rattle.std.specs.Prelude.{◌≡◌, IsTrue};
-ghost use Rattle.decisions.specs.Truth.{no_relation, related, told_of};
+ghost use Rattle.decisions.specs.Truth.{no_relation, related};
 
 use path_grammar::Op;
+use path_meaning::told_of;
 
 /// How the value of `@` compares with that of `$`.
 #[derive(Clone, Copy)]
@@ -43,7 +44,7 @@ impl Relation {
         ensures { result ≡ related self turned op }
     {
         if turned {
-            told(
+            told_of(
                 self.is_equal_back,
                 self.is_equal,
                 self.is_greater,
@@ -51,7 +52,7 @@ impl Relation {
                 op,
             )
         } else {
-            told(
+            told_of(
                 self.is_equal,
                 self.is_equal_back,
                 self.is_less,
@@ -59,18 +60,5 @@ impl Relation {
                 op,
             )
         }
-    }
-}
-
-fn told(equal: bool, back: bool, less: bool, greater: bool, op: Op) -> bool
-    ensures { result ≡ told_of equal back less greater op }
-{
-    match op {
-        Op::Eq => equal,
-        Op::Ne => !equal,
-        Op::Lt => less,
-        Op::Gt => greater,
-        Op::Le => less || equal,
-        Op::Ge => greater || back,
     }
 }

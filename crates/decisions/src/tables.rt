@@ -1,14 +1,13 @@
 //! The truth of a condition for each kind of value, at each place.
 
-ghost use Rattle.std.specs.Prelude.{◌≡◌, ℕ, ◌+◌, ◌*◌, ◌<◌, ◌≤◌, length, map, slice_index_or, EachIndex, false, not, ◌||◌, ◌&&◌, Option, IfOk};
+ghost use Rattle.std.specs.Prelude.{◌≡◌, ℕ, ◌+◌, ◌*◌, ◌<◌, ◌≤◌, length, map, slice_index_or, EachIndex, false, not, ◌||◌, ◌&&◌, Some, IfOk};
 ghost use Rattle.std.specs.Ordering.{nat_cmp};
-ghost use Rattle.std.specs.declared.cmp.Ordering.{Ordering};
 ghost use Rattle.std.specs.List.Sorted.{IsSortedByKey};
 ghost use Rattle.path_meaning.specs.Comparison.{compared};
 ghost use Rattle.decisions.specs.Order.{value_cmp};
 ghost use Rattle.decisions.specs.Places.{AreCells, from_place};
 ghost use Rattle.decisions.specs.Tree.{tests_of};
-ghost use Rattle.decisions.specs.Truth.{told, told_apart, told_by, turned, truth_by, some_true, all_true};
+ghost use Rattle.decisions.specs.Truth.{told_apart, told_by, turned_if, truth_by, some_true, all_true};
 ghost use Rattle.decisions.specs.Views.{constant_view, constant_value, test_view};
 
 use crate::laws::tells_as_compared;
@@ -17,41 +16,25 @@ use crate::places::literal_place;
 use crate::relation::Relation;
 use crate::test::{Constant, Test};
 use path_grammar::Op;
+use path_meaning::{tells, told_of};
 use std::alloc::{AllocError, Global};
 use std::cmp::Ordering;
 
-// Whether a comparison holds, by how its sides compare.
-pub fn tells(op: Op, order: Ordering) -> bool
-    ensures { result ≡ told op order }
-{
-    match op {
-        Op::Eq => order.is_eq(),
-        Op::Ne => order.is_ne(),
-        Op::Lt => order.is_lt(),
-        Op::Le => order.is_le(),
-        Op::Gt => order.is_gt(),
-        Op::Ge => order.is_ge(),
-    }
-}
-
-// Whether it holds where they are of two kinds.
+// Whether a comparison holds where its sides are of two kinds.
 fn tells_apart(op: Op) -> bool
     ensures { result ≡ told_apart op }
 {
-    matches!(op, Op::Ne)
+    told_of(false, false, false, false, op)
 }
 
-// The operator with its sides exchanged.
-fn turn_about(op: Op) -> Op
-    ensures { (o : Option Ordering) → told_by op (turned o) ≡ told_by result o }
+// Whether a comparison, or the one with its sides exchanged, holds of sides that have this order.
+fn tells_turned(is_turned: bool, op: Op, order: Ordering) -> bool
+    ensures { result ≡ told_by op (turned_if is_turned (Some order)) }
 {
-    match op {
-        Op::Eq => Op::Eq,
-        Op::Ne => Op::Ne,
-        Op::Lt => Op::Gt,
-        Op::Le => Op::Ge,
-        Op::Gt => Op::Lt,
-        Op::Ge => Op::Le,
+    if is_turned {
+        tells(op, order.reverse())
+    } else {
+        tells(op, order)
     }
 }
 
@@ -108,37 +91,39 @@ fn all_cells(alloc: Global, literals: &[Constant], truth: bool) -> Result<Vec<bo
 fn told_cells(
     alloc: Global,
     literals: &[Constant],
+    is_turned: bool,
     op: Op,
     there: usize,
 ) -> Result<Vec<bool>, AllocError>
     requires { there ≤ 2 * length literals.now }
-    ensures { IfOk result (λ cells. AreCells (length literals.now) cells.items (λ p. told op (nat_cmp p there))) }
+    ensures { IfOk result (λ cells. AreCells (length literals.now) cells.items (λ p. told_by op (turned_if is_turned (Some (nat_cmp p there))))) }
 {
-    let below = tells(op, Ordering::Less);
-    let above = tells(op, Ordering::Greater);
+    let below = tells_turned(is_turned, op, Ordering::Less);
+    let above = tells_turned(is_turned, op, Ordering::Greater);
     let mut cells = all_cells(alloc, literals, above)?;
     for at in 0..there {
         cells[at] = below;
     }
-    cells[there] = tells(op, Ordering::Equal);
+    cells[there] = tells_turned(is_turned, op, Ordering::Equal);
     Ok(cells)
 }
 
-// Whether a comparison of the value with this literal holds, at each place.
+// Whether a comparison of the value with this literal holds, or of the literal with the value, at each place.
 fn one_table(
     alloc: Global,
     literals: &[Constant],
     kind: usize,
+    is_turned: bool,
     op: Op,
     literal: &Constant,
 ) -> Result<Vec<bool>, AllocError>
     requires { IsSortedByKey constant_value value_cmp literals.now }
-    ensures { IfOk result (λ cells. AreCells (length literals.now) cells.items (λ p. told_by op (from_place (map constant_value literals.now) kind p (constant_view literal.now)))) }
+    ensures { IfOk result (λ cells. AreCells (length literals.now) cells.items (λ p. told_by op (turned_if is_turned (from_place (map constant_value literals.now) kind p (constant_view literal.now))))) }
 {
     let own = literal_kind(&literal.literal);
     if own == kind {
         let there = literal_place(literals, literal);
-        told_cells(alloc, literals, op, there)
+        told_cells(alloc, literals, is_turned, op, there)
     } else {
         let apart = tells_apart(op);
         all_cells(alloc, literals, apart)
@@ -165,8 +150,8 @@ fn table(
             turn(&mut cells);
             Ok(cells)
         }
-        Test::Value(op, literal) => one_table(alloc, literals, kind, *op, literal),
-        Test::Against(literal, op) => one_table(alloc, literals, kind, turn_about(*op), literal),
+        Test::Value(op, literal) => one_table(alloc, literals, kind, false, *op, literal),
+        Test::Against(literal, op) => one_table(alloc, literals, kind, true, *op, literal),
         Test::Literals(left, op, right) => {
             let truth = compare_two(left, *op, right);
             all_cells(alloc, literals, truth)

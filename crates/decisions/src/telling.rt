@@ -8,8 +8,9 @@ ghost use Rattle.decisions.specs.Views.{test_view};
 use crate::laws::tells_as_compared;
 use crate::relation::Relation;
 use crate::side::ComparedSide;
-use crate::tables::{compare_two, tells};
+use crate::tables::compare_two;
 use crate::test::Test;
+use path_meaning::tells;
 use std::cmp::Ordering;
 
 /// Whether a condition holds where its side has a value, and `@` compares so with `$`.

@@ -1,16 +1,14 @@
 -- Conditions that are decided beforehand: the truth that a decision tells.
-use Rattle.std.proofs.Common.{◌≡◌, Bool, true, false, ◌&&◌, ◌||◌, Option, Some, refl, sym, ap, arith}
+use Rattle.std.proofs.Common.{◌≡◌, Bool, true, false, ◌&&◌, ◌||◌, Option, Some, refl, ap, arith}
 use Rattle.std.specs.Prelude.{IsTrue}
 use Rattle.std.specs.Prelude.{not as opposite}
 use Rattle.path_grammar.specs.Tree.{Comparable}
 use Rattle.json_tape.specs.Nodes.{Node}
-use Rattle.tape_values.specs.Comparison.{Value, value_of, compared}
+use Rattle.tape_values.specs.Comparison.{Value, value_of}
 use Rattle.decisions.specs.Laws.{TellsAsCompared}
 use Rattle.decisions.specs.Tree.{Tested, Tests, any, each, negated, value, against, two, present, itself, rooted, no_tests, tested, expr_of, exprs_of_tests, uses, all_uses, meets_root, some_meet}
-use Rattle.decisions.specs.Truth.{truth, some_true, all_true, versus, related, IsRelated}
+use Rattle.decisions.specs.Truth.{truth, some_true, all_true, versus, IsRelated}
 use Rattle.decisions.specs.declared.relation.Relation.{Relation}
-use Rattle.path_grammar.specs.declared.ast.Op.{Op}
-use Rattle.path_grammar.specs.declared.ast.Op.TheVariants.{Eq, Ne, Le, Ge, Lt, Gt}
 use Rattle.node_lists.specs.Evaluation.{holds, some_hold, all_hold, result}
 
 or_first : (a b : Bool) → IsTrue a → IsTrue (a || b)
@@ -20,22 +18,6 @@ or_first false b h = absurd cc
 or_second : (a b : Bool) → IsTrue b → IsTrue (a || b)
 or_second true b h = refl
 or_second false b h = h
-
-pub forth : (r : Relation) (v w : Option Value) (op : Op) → IsRelated r v w → compared op v w ≡ related r false op
-forth r v w Eq h = sym h.equal
-forth r v w Ne h = ap opposite (sym h.equal)
-forth r v w Lt h = sym h.less
-forth r v w Gt h = sym h.greater
-forth r v w Le h = λ i. sym h.less i || sym h.equal i
-forth r v w Ge h = λ i. sym h.greater i || sym h.back i
-
-pub back : (r : Relation) (v w : Option Value) (op : Op) → IsRelated r v w → compared op w v ≡ related r true op
-back r v w Eq h = sym h.back
-back r v w Ne h = ap opposite (sym h.back)
-back r v w Lt h = sym h.greater
-back r v w Gt h = sym h.less
-back r v w Le h = λ i. sym h.greater i || sym h.back i
-back r v w Ge h = λ i. sym h.less i || sym h.equal i
 
 module _ (root n : Node) (side : Comparable) (law : TellsAsCompared) (r : Relation) where
   mutual
@@ -49,8 +31,8 @@ module _ (root n : Node) (side : Comparable) (law : TellsAsCompared) (r : Relati
     holds_decided (present from_root) h = refl
     holds_decided (itself true op) h = law.itself op (Some (value_of root.tree))
     holds_decided (itself false op) h = law.itself op (Some (value_of n.tree))
-    holds_decided (rooted false op) h = forth r (Some (value_of n.tree)) (Some (value_of root.tree)) op (h refl)
-    holds_decided (rooted true op) h = back r (Some (value_of n.tree)) (Some (value_of root.tree)) op (h refl)
+    holds_decided (rooted false op) h = law.forth op r (Some (value_of n.tree)) (Some (value_of root.tree)) (h refl)
+    holds_decided (rooted true op) h = law.back op r (Some (value_of n.tree)) (Some (value_of root.tree)) (h refl)
 
     some_decided : (ts : Tests) → (IsTrue (some_meet ts) → IsRelated r (Some (value_of n.tree)) (Some (value_of root.tree))) → some_hold root (exprs_of_tests side ts) n ≡ some_true (versus (result root side n)) r ts
     some_decided no_tests h = refl

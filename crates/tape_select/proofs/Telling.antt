@@ -25,7 +25,6 @@ use Rattle.node_lists.specs.Evaluation.{holds, some_hold, all_hold, result, call
 use Rattle.tape_select.specs.Memo.{IsTruth}
 use Rattle.query_plan.specs.Planned.{Claimed, a_condition}
 use Rattle.decisions.specs.Decided.{is_alone, is_free_call, are_free, is_free_argument, is_free, is_written, is_told_pair, is_told, are_told, whole, totals, argument_lengths, call_lengths, side_literals, literals, all_literals, values_on, beside, values_in, is_told_on, HasLength, AreApart, IsCell}
-use Rattle.tape_select.proofs.Decided.{forth, back}
 
 and_first : (a b : Bool) → IsTrue (a && b) → IsTrue a
 and_first true b h = refl
@@ -217,12 +216,6 @@ root_apart v (a_number t) h = none_apart v
 root_apart v (a_text s) h = number_apart v (Some (length s)) h
 root_apart v (a_container t) h = number_apart v (length_of t) h
 
-alike_left : (x y u v : Option Value) (op : Op) → AreApart x u → AreApart y v → compared op x u ≡ compared op y v
-alike_left x y u v op a b = forth no_relation x u op a ∙ sym (forth no_relation y v op b)
-
-alike_right : (x y u v : Option Value) (op : Op) → AreApart x u → AreApart y v → compared op u x ≡ compared op v y
-alike_right x y u v op a b = back no_relation x u op a ∙ sym (back no_relation y v op b)
-
 some_kind : (v : Value) → 0 < kind (Some v)
 some_kind a_null = omega arith
 some_kind (a_boolean true) = omega arith
@@ -231,17 +224,24 @@ some_kind (a_number t) = omega arith
 some_kind (a_text s) = omega arith
 some_kind (a_container t) = omega arith
 
-none_left : (x y : Option Value) (op : Op) → kind x ≡ kind y → compared op x None ≡ compared op y None
-none_left None None op e = refl
-none_left None (Some w) op e = let k = some_kind w in absurd (omega (arith, e, k))
-none_left (Some v) None op e = let k = some_kind v in absurd (omega (arith, e, k))
-none_left (Some v) (Some w) op e = alike_left (Some v) (Some w) None None op (none_apart v) (none_apart w)
+module _ (ordered : TellsAsCompared) where
+  alike_left : (x y u v : Option Value) (op : Op) → AreApart x u → AreApart y v → compared op x u ≡ compared op y v
+  alike_left x y u v op a b = ordered.forth op no_relation x u a ∙ sym (ordered.forth op no_relation y v b)
 
-none_right : (x y : Option Value) (op : Op) → kind x ≡ kind y → compared op None x ≡ compared op None y
-none_right None None op e = refl
-none_right None (Some w) op e = let k = some_kind w in absurd (omega (arith, e, k))
-none_right (Some v) None op e = let k = some_kind v in absurd (omega (arith, e, k))
-none_right (Some v) (Some w) op e = alike_right (Some v) (Some w) None None op (none_apart v) (none_apart w)
+  alike_right : (x y u v : Option Value) (op : Op) → AreApart x u → AreApart y v → compared op u x ≡ compared op v y
+  alike_right x y u v op a b = ordered.back op no_relation x u a ∙ sym (ordered.back op no_relation y v b)
+
+  none_left : (x y : Option Value) (op : Op) → kind x ≡ kind y → compared op x None ≡ compared op y None
+  none_left None None op e = refl
+  none_left None (Some w) op e = let k = some_kind w in absurd (omega (arith, e, k))
+  none_left (Some v) None op e = let k = some_kind v in absurd (omega (arith, e, k))
+  none_left (Some v) (Some w) op e = alike_left (Some v) (Some w) None None op (none_apart v) (none_apart w)
+
+  none_right : (x y : Option Value) (op : Op) → kind x ≡ kind y → compared op None x ≡ compared op None y
+  none_right None None op e = refl
+  none_right None (Some w) op e = let k = some_kind w in absurd (omega (arith, e, k))
+  none_right (Some v) None op e = let k = some_kind v in absurd (omega (arith, e, k))
+  none_right (Some v) (Some w) op e = alike_right (Some v) (Some w) None None op (none_apart v) (none_apart w)
 
 -- ---- What is told at two nodes of one cell
 
@@ -289,17 +289,17 @@ module _ (ordered : TellsAsCompared) (law : TellsByMarks) (vs : List (Option Val
   none_fits =
       let kinds = law.kinds vs (length_value (own n)) (length_value (own m)) same.lengths in
       record {
-        left = λ op. alike_left (own n) (own m) None None op (none_apart (value_of n.tree)) (none_apart (value_of m.tree));
-        right = λ op. alike_right (own n) (own m) None None op (none_apart (value_of n.tree)) (none_apart (value_of m.tree));
-        length_left = λ op. none_left (length_value (own n)) (length_value (own m)) op kinds;
-        length_right = λ op. none_right (length_value (own n)) (length_value (own m)) op kinds;
+        left = λ op. alike_left ordered (own n) (own m) None None op (none_apart (value_of n.tree)) (none_apart (value_of m.tree));
+        right = λ op. alike_right ordered (own n) (own m) None None op (none_apart (value_of n.tree)) (none_apart (value_of m.tree));
+        length_left = λ op. none_left ordered (length_value (own n)) (length_value (own m)) op kinds;
+        length_right = λ op. none_right ordered (length_value (own n)) (length_value (own m)) op kinds;
       }
 
   crossed : (s t : Source) (op : Op) → Fits n m s → Fits n m t → compared op (value_from s n) (value_from t n) ≡ compared op (value_from s m) (value_from t m)
   crossed the_child the_child op h k = ordered.itself op (own n) ∙ sym (ordered.itself op (own m))
-  crossed the_child its_length op h k = alike_left (own n) (own m) (length_value (own n)) (length_value (own m)) op (length_apart (value_of n.tree)) (length_apart (value_of m.tree))
+  crossed the_child its_length op h k = alike_left ordered (own n) (own m) (length_value (own n)) (length_value (own m)) op (length_apart (value_of n.tree)) (length_apart (value_of m.tree))
   crossed the_child (fixed v) op h k = k.left op
-  crossed its_length the_child op h k = alike_right (own n) (own m) (length_value (own n)) (length_value (own m)) op (length_apart (value_of n.tree)) (length_apart (value_of m.tree))
+  crossed its_length the_child op h k = alike_right ordered (own n) (own m) (length_value (own n)) (length_value (own m)) op (length_apart (value_of n.tree)) (length_apart (value_of m.tree))
   crossed its_length its_length op h k = ordered.itself op (length_value (own n)) ∙ sym (ordered.itself op (length_value (own m)))
   crossed its_length (fixed v) op h k = k.length_left op
   crossed (fixed v) the_child op h k = h.right op
@@ -312,10 +312,10 @@ module _ (ordered : TellsAsCompared) (law : TellsByMarks) (vs : List (Option Val
         let here = root_apart (value_of root.tree) (value_of n.tree) rooted.long in
         let there = root_apart (value_of root.tree) (value_of m.tree) rooted.long in
         record {
-          left = λ op. alike_left (own n) (own m) (own root) (own root) op rooted.here rooted.there;
-          right = λ op. alike_right (own n) (own m) (own root) (own root) op rooted.here rooted.there;
-          length_left = λ op. alike_right (own root) (own root) (length_value (own n)) (length_value (own m)) op here there;
-          length_right = λ op. alike_left (own root) (own root) (length_value (own n)) (length_value (own m)) op here there;
+          left = λ op. alike_left ordered (own n) (own m) (own root) (own root) op rooted.here rooted.there;
+          right = λ op. alike_right ordered (own n) (own m) (own root) (own root) op rooted.here rooted.there;
+          length_left = λ op. alike_right ordered (own root) (own root) (length_value (own n)) (length_value (own m)) op here there;
+          length_right = λ op. alike_left ordered (own root) (own root) (length_value (own n)) (length_value (own m)) op here there;
         }
 
     root_length_fits : Compares n m (length_value (own root))

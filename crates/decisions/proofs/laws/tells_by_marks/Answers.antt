@@ -6,4 +6,5 @@ use Rattle.decisions.proofs.laws.tells_by_marks.Goals as goal
 pub returns : goal.returns
 returns c =
     let numbers = c.orders_values.ensures.numbers in
-    record { itself = tied_itself (value_total numbers); kinds = marked_kinds numbers; left = marked_left numbers; right = marked_right numbers; cells = marked_cells }
+    let law = c.comparisons_are_told.ensures in
+    record { itself = tied_itself (value_total numbers); kinds = marked_kinds numbers; left = marked_left numbers law; right = marked_right numbers law; cells = marked_cells }
