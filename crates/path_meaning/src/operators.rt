@@ -26,13 +26,11 @@ pub fn told_of(equal: bool, back: bool, less: bool, greater: bool, op: Op) -> bo
 pub fn tells(op: Op, order: Ordering) -> bool
     ensures { result ≡ told op order }
 {
-    told_of(
-        order.is_eq(),
-        order.is_eq(),
-        order.is_lt(),
-        order.is_gt(),
-        op,
-    )
+    match order {
+        Ordering::Less => told_of(false, false, true, false, op),
+        Ordering::Equal => told_of(true, true, false, false, op),
+        Ordering::Greater => told_of(false, false, false, true, op),
+    }
 }
 
 /// Each comparison of two values is told by these four facts about them.
