@@ -5,13 +5,12 @@ ghost use Rattle.server_arguments.specs.Statuses.{status_of};
 
 use crate::introduction::about;
 use crate::key_file::read_key_file;
-use crate::named_keys::NamedKeys;
+use crate::named_keys::{NamedKeys, keys_of_word};
 use event_loop::{Gate, Limits, LoopCore, LoopFault, Server, Since, Sockets, Totals};
 use hub_core::HubCore;
 use hub_server::MeasuredHub;
 use log_lines::LoopLines;
 use path_hub::Hub;
-use path_server::read_keys;
 use server_arguments::{Failure, Listening};
 use standard_streams::WriteFault;
 use std::alloc::{AllocError, Global};
@@ -54,23 +53,26 @@ fn serve_at<'r, R: Print + Env + Net + Clock + AllocGlobal, P: Print + Drop>(
     keys: &NamedKeys,
     server: &mut Bound<'r, R, MeasuredHub>,
 ) -> Result<(), Failure> {
-    let lines = begin(rt, errors, wanted, keys, server)?;
-    run(rt, wanted, server, lines)?;
-    end(rt, &server.totals())
+    let administration = administer(rt, wanted, server, keys)?;
+    match lines(rt, errors, wanted, keys) {
+        Ok(mut lines) => run(rt, wanted, administration, server, &mut lines),
+        Err(AllocError) => Err(Failure::Memory),
+    }
 }
 
-// Binds the administration address, where there is one, and prints the addresses. Hands out what writes the lines on standard error.
-fn begin<'r, R: Print + Env + Net + Clock + AllocGlobal, P: Print + Drop, C: LoopCore>(
+// Prints the addresses, serves until the end, and prints what was served.
+fn run<'r, R: Print + Net + Clock + AllocGlobal, P: Print + Drop>(
     rt: &'r R,
-    errors: P,
     wanted: &Listening<'_>,
-    keys: &NamedKeys,
-    server: &mut Bound<'r, R, C>,
-) -> Result<LoopLines<'r, R, P>, Failure> {
-    let administration = administer(rt, wanted, server, keys)?;
-    let lines = lines(rt, errors, wanted, keys)?;
+    administration: Option<SocketAddr>,
+    server: &mut Bound<'r, R, MeasuredHub>,
+    lines: &mut LoopLines<'r, R, P>,
+) -> Result<(), Failure> {
     tell_addresses(rt, wanted, administration, server)?;
-    Ok(lines)
+    match hub_server::serve(server, lines) {
+        Ok(()) => end(rt, &server.totals()),
+        Err(fault) => Err(failure_of(rt.alloc(), wanted.address, fault)),
+    }
 }
 
 // Prints the lines with the bound addresses.
@@ -81,11 +83,11 @@ fn tell_addresses<R: Print + Net + Clock + AllocGlobal, C: LoopCore>(
     server: &Bound<'_, R, C>,
 ) -> Result<(), Failure> {
     match server.local_addr() {
-        Ok(bound) => print_line(rt, "listening", &bound)?,
+        Ok(bound) => print_address(rt, "listening", &bound)?,
         Err(fault) => return Err(failure_of(rt.alloc(), wanted.address, fault)),
     }
     match administration {
-        Some(bound) => print_line(rt, "administration", &bound),
+        Some(bound) => print_address(rt, "administration", &bound),
         None => Ok(()),
     }
 }
@@ -103,7 +105,7 @@ fn administer<'r, R: Env + Net + Clock + AllocGlobal, C: LoopCore>(
     }
 }
 
-// Binds this administration address, and tells the server what it is.
+// Binds this administration address.
 fn administer_at<'r, R: Env + Net + Clock + AllocGlobal, C: LoopCore>(
     rt: &'r R,
     address: &str,
@@ -112,31 +114,26 @@ fn administer_at<'r, R: Env + Net + Clock + AllocGlobal, C: LoopCore>(
     keys: &NamedKeys,
 ) -> Result<Option<SocketAddr>, Failure> {
     let addr = address_of(rt, address)?;
-    let known = copied(rt.alloc(), keys.keys.as_slice())?;
-    let about = about(
-        rt,
-        wanted.admin_hosts.as_slice(),
-        names_of(rt.alloc(), keys)?,
-    )?;
-    match server.administer(rt, addr, known, about) {
+    match introduce(rt, addr, wanted, server, keys) {
         Ok(bound) => Ok(Some(bound)),
         Err(fault) => Err(failure_of(rt.alloc(), address, fault)),
     }
 }
 
-fn copied(alloc: Global, keys: &[[u8; 16]]) -> Result<Vec<[u8; 16]>, Failure> {
-    let mut copies = Vec::new(alloc);
-    match copies.extend_from_slice(keys) {
-        Ok(()) => Ok(copies),
-        Err(_) => Err(Failure::Memory),
-    }
+// Binds an administration address, and tells the server what it is.
+fn introduce<'r, R: Env + Net + Clock + AllocGlobal, C: LoopCore>(
+    rt: &'r R,
+    addr: SocketAddr,
+    wanted: &Listening<'_>,
+    server: &mut Bound<'r, R, C>,
+    keys: &NamedKeys,
+) -> Result<SocketAddr, LoopFault> {
+    let about = about(rt, wanted.admin_hosts.as_slice(), keys)?;
+    server.administer(rt, addr, keys.keys.clone()?, about)
 }
 
-fn names_of(alloc: Global, keys: &NamedKeys) -> Result<Vec<String>, Failure> {
-    keys.copied(alloc).map_err(|_| Failure::Memory)
-}
-
-fn print_line<R: Print>(rt: &R, what: &str, bound: &SocketAddr) -> Result<(), Failure> {
+/// Prints a line with an address that is bound.
+pub fn print_address<R: Print>(rt: &R, what: &str, bound: &SocketAddr) -> Result<(), Failure> {
     match println!(rt; "{what} {bound}") {
         Ok(()) => Ok(()),
         Err(error) => Err(Failure::Write(WriteFault(error.kind()))),
@@ -149,25 +146,10 @@ fn lines<'r, R: Net + Clock + AllocGlobal, P: Print + Drop>(
     errors: P,
     wanted: &Listening<'_>,
     keys: &NamedKeys,
-) -> Result<LoopLines<'r, R, P>, Failure> {
-    let names = names_of(rt.alloc(), keys)?;
-    match Gate::new(rt, rt.alloc(), STANDARD_ERROR) {
-        Ok(gate) => Ok(LoopLines::new(rt, rt.alloc(), errors, gate, wanted.log, names)),
-        Err(_) => Err(Failure::Memory),
-    }
-}
-
-// Serves until the end.
-fn run<'r, R: Net + Clock + AllocGlobal, P: Print + Drop>(
-    rt: &'r R,
-    wanted: &Listening<'_>,
-    server: &mut Bound<'r, R, MeasuredHub>,
-    mut lines: LoopLines<'r, R, P>,
-) -> Result<(), Failure> {
-    match hub_server::serve(server, &mut lines) {
-        Ok(()) => Ok(()),
-        Err(fault) => Err(failure_of(rt.alloc(), wanted.address, fault)),
-    }
+) -> Result<LoopLines<'r, R, P>, AllocError> {
+    let names = keys.names.clone()?;
+    let gate = Gate::new(rt, rt.alloc(), STANDARD_ERROR)?;
+    Ok(LoopLines::new(rt, rt.alloc(), errors, gate, wanted.log, names))
 }
 
 // Prints what was served.
@@ -218,28 +200,39 @@ fn boxed<T: Drop>(alloc: Global, value: T) -> Result<Box<T>, AllocError> {
     Ok(value)
 }
 
-// The hub of these keys. Where somebody is told of it, slow queries are counted and told.
+// The hub of these keys.
 fn core_of<R: AllocGlobal>(
     rt: &R,
     wanted: &Listening<'_>,
     keys: &[[u8; 16]],
 ) -> Result<MeasuredHub, Failure> {
-    let hub = Hub::new(rt.alloc(), keys).map_err(|fault| Failure::of_tenants(keys, fault))?;
-    let mut core = MeasuredHub::new(HubCore::new(rt.alloc(), hub));
+    match Hub::new(rt.alloc(), keys) {
+        Ok(hub) => Ok(measured(rt.alloc(), wanted, hub)),
+        Err(fault) => Err(Failure::of_tenants(keys, fault)),
+    }
+}
+
+// A core of this hub. Where somebody is told of it, slow queries are counted and told.
+fn measured(alloc: Global, wanted: &Listening<'_>, hub: Hub) -> MeasuredHub {
+    let mut core = MeasuredHub::new(HubCore::new(alloc, hub));
     if wanted.log || wanted.admin.is_some() {
         core.tell_slow(u64::from(wanted.slow) * 1_000);
     }
-    Ok(core)
+    core
 }
 
 // The first address that a text names.
 fn address_of<R: Net + AllocGlobal>(rt: &R, text: &str) -> Result<SocketAddr, Failure> {
+    match first_address(rt, text) {
+        Ok(addr) => Ok(addr),
+        Err(reason) => Err(Failure::of_address(rt.alloc(), text, reason)),
+    }
+}
+
+fn first_address<R: Net>(rt: &R, text: &str) -> Result<SocketAddr, ErrorKind> {
     match text.to_socket_addrs(rt) {
-        Ok(mut addresses) => match addresses.next() {
-            Some(addr) => Ok(addr),
-            None => Err(Failure::of_address(rt.alloc(), text, ErrorKind::AddrNotAvailable)),
-        },
-        Err(error) => Err(Failure::of_address(rt.alloc(), text, error.kind())),
+        Ok(mut addresses) => addresses.next().ok_or(ErrorKind::AddrNotAvailable),
+        Err(error) => Err(error.kind()),
     }
 }
 
@@ -256,35 +249,42 @@ fn limits_of(wanted: &Listening<'_>) -> Limits {
 
 // The keys of the file, and then those of the command line. No two tenants have the same name.
 fn keys_of<R: Files + AllocGlobal>(rt: &R, wanted: &Listening<'_>) -> Result<NamedKeys, Failure> {
-    let mut keys = match wanted.file {
-        Some(path) => read_key_file(rt, path)?,
-        None => NamedKeys::new(rt.alloc()),
-    };
-    if let Some(words) = wanted.keys {
-        add_words(rt.alloc(), words, &mut keys)?;
-    }
-    match repeated_name(rt.alloc(), &keys) {
-        Some(failure) => Err(failure),
-        None => Ok(keys),
+    let mut keys = keys_of_file(rt, wanted.file)?;
+    match add_words(rt.alloc(), wanted.keys, &mut keys) {
+        Ok(()) => Ok(keys),
+        Err(failure) => Err(failure),
     }
 }
 
-// The failure of names of which one stands twice. A key that does is another failure.
-fn repeated_name(alloc: Global, keys: &NamedKeys) -> Option<Failure> {
-    let name = keys.repeated()?;
+fn keys_of_file<R: Files + AllocGlobal>(rt: &R, file: Option<&str>) -> Result<NamedKeys, Failure> {
+    match file {
+        Some(path) => read_key_file(rt, path),
+        None => Ok(NamedKeys::new(rt.alloc())),
+    }
+}
+
+// Appends the keys of a word of the command line, and refuses names of which one stands twice. A key that does is another failure.
+fn add_words(alloc: Global, word: Option<&str>, keys: &mut NamedKeys) -> Result<(), Failure> {
+    if let Some(word) = word {
+        add_word(alloc, word, keys)?;
+    }
+    match keys.repeated() {
+        Some(name) => Err(repeated_name(alloc, name)),
+        None => Ok(()),
+    }
+}
+
+fn add_word(alloc: Global, word: &str, keys: &mut NamedKeys) -> Result<(), Failure> {
+    let more = keys_of_word(alloc, word)?;
+    match keys.add_all(alloc, more.as_slice()) {
+        Ok(()) => Ok(()),
+        Err(_) => Err(Failure::Memory),
+    }
+}
+
+fn repeated_name(alloc: Global, name: &str) -> Failure {
     match String::from_str(alloc, name) {
-        Ok(name) => Some(Failure::RepeatedName(name)),
-        Err(_) => Some(Failure::Memory),
+        Ok(name) => Failure::RepeatedName(name),
+        Err(_) => Failure::Memory,
     }
-}
-
-// Appends the keys of a word of the command line.
-fn add_words(alloc: Global, words: &str, keys: &mut NamedKeys) -> Result<(), Failure> {
-    let more = read_keys(alloc, words.as_bytes()).map_err(|fault| Failure::of_keys(words, fault))?;
-    for key in &more {
-        if keys.add(alloc, *key, None).is_err() {
-            return Err(Failure::Memory);
-        }
-    }
-    Ok(())
 }

@@ -1,7 +1,17 @@
 //! Tenants' keys, and what the tenants are called.
 
+use path_server::read_keys;
+use server_arguments::Failure;
 use sha2::{Digest, Sha256};
 use std::alloc::{AllocError, Global};
+
+/// The keys of a word of the command line.
+pub fn keys_of_word(alloc: Global, word: &str) -> Result<Vec<[u8; 16]>, Failure> {
+    match read_keys(alloc, word.as_bytes()) {
+        Ok(keys) => Ok(keys),
+        Err(fault) => Err(Failure::of_keys(word, fault)),
+    }
+}
 
 /// Keys, and as many names.
 #[derive(Drop)]
@@ -27,11 +37,19 @@ impl NamedKeys {
         name: Option<&str>,
     ) -> Result<(), AllocError> {
         let name = match name {
-            Some(name) => String::from_str(alloc, name)?,
-            None => digits_of(alloc, &key)?,
+            Some(name) => String::from_str(alloc, name),
+            None => digits_of(alloc, &key),
         };
-        self.keys.extend_from_slice(&[key])?;
-        append(&mut self.names, name)
+        append(&mut self.names, name?)?;
+        self.keys.extend_from_slice(&[key])
+    }
+
+    /// Appends keys without names.
+    pub fn add_all(&mut self, alloc: Global, keys: &[[u8; 16]]) -> Result<(), AllocError> {
+        for key in keys {
+            self.add(alloc, *key, None)?;
+        }
+        Ok(())
     }
 
     /// A name that two keys have, if one is such.
@@ -53,15 +71,6 @@ impl NamedKeys {
             }
         }
         false
-    }
-
-    /// A copy of the names.
-    pub fn copied(&self, alloc: Global) -> Result<Vec<String>, AllocError> {
-        let mut names = Vec::new(alloc);
-        for name in &self.names {
-            append(&mut names, String::from_str(alloc, name.as_str())?)?;
-        }
-        Ok(names)
     }
 }
 
