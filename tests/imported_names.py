@@ -1,13 +1,12 @@
 #!/usr/bin/env python3
 """Tests bin/tools/imports.py: which imports of a file are told as unused, and which cite the proofs of another crate. tests/imported_names.py."""
-import re
 import sys
 import tempfile
 from pathlib import Path
 
 TOP = Path(__file__).resolve().parent.parent
 sys.path.insert(0, str(TOP / "bin/tools"))
-from imports import CITED, cited_in, unused_in
+from imports import cited_in, unused_in
 from lib.running_server import Report
 
 CASES = [
@@ -51,10 +50,6 @@ def main():
             source.write_text(text, encoding="utf-8")
             (Path(made) / "node_lists").mkdir(exist_ok=True)
             report.case(f"cites: {name}", text, wanted, [other for _, others in cited_in(Path(made)) for other in others])
-    now = {(path.relative_to(TOP / "crates").parts[0], other) for path in (TOP / "crates").glob("*/proofs/**/*.antt")
-           for other in re.findall(r"^use Rattle\.(\w+)\.proofs\.", path.read_text(encoding="utf-8"), re.M)}
-    for pair in sorted(CITED):
-        report.case("a pair that is left cites still", pair, True, pair in now)
     report.close("imported names")
 
 

@@ -15,8 +15,6 @@ PROOFS = re.compile(r"^(?:ghost )?use Rattle\.(\w+)\.proofs\.", re.M)
 READER = {"bit_words", "byte_masks", "escape_runs", "string_spans", "structural_index", "json_text", "json_strings", "tape_cells", "name_stamps", "name_order",
           "json_walk", "json_tape", "text_faults", "text_places"}
 """The crates of the reader, and of the places of its refusals. Their proofs cite those of the crates below."""
-CITED = {("event_loop", "outbox"), ("event_loop", "open_connections")}
-"""The crates above the reader of which one still cites the proofs of the other. No pair may be added."""
 
 
 def imported(statement):
@@ -57,11 +55,11 @@ def unused_in(crates):
 
 
 def cited_in(crates):
-    """For each file of a crate above the reader that imports proofs of another crate of the repository: its path, and those crates (but CITED)."""
+    """For each file of a crate above the reader that imports proofs of another crate of the repository: its path, and those crates."""
     names = {path.name for path in crates.iterdir()}
     for path in sorted(crates.glob("*/*/**/*.antt")):
         crate, folder = path.relative_to(crates).parts[:2]
         if folder in {"specs", "proofs"} and crate not in READER:
             others = set(PROOFS.findall(path.read_text(encoding="utf-8"))) & names - {crate}
-            if wrong := sorted(it for it in others if (crate, it) not in CITED):
-                yield path, wrong
+            if others:
+                yield path, sorted(others)

@@ -1,5 +1,7 @@
 pub mod Deaf
 pub mod Going
+pub mod Listed
+pub mod Looping
 pub mod Serving
 pub mod Waking
 pub mod Seats

@@ -3,6 +3,7 @@ use Rattle.std.proofs.Common.{◌≡◌, ◌^◌, ℕ, Bool, true, false, List, 
 use Rattle.std.specs.Prelude.{◌&&◌, ◌||◌, IfSome, OnOk, not, nat_le, nat_lt, slice_index_or}
 use Rattle.std.specs.Option.{option_map, option_map_or}
 use Rattle.std.proofs.Common.{arith}
+use Rattle.std.proofs.lemmas.Bool.{and_parts}
 use Rattle.std.proofs.lemmas.Bool.Decides.{nat_tests}
 use Rattle.std.proofs.Math.ListN.{get_or-map}
 use Rattle.slab.specs.Slab.{Slab, get}
@@ -15,10 +16,6 @@ use Rattle.event_loop.specs.Seats.{AreSeated, IsSeated, Seat, seat_of, seats_of,
 
 seat_at : {S : Type 0} (slab : Slab (Connection S)) (q : ℕ) → slice_index_or (seats_of slab) q None ≡ option_map seat_of (get slab q)
 seat_at {S} slab q = get_or-map (λ (slot : Option (Connection S)). option_map seat_of slot) slab.slots q None
-
-right_of : (x y : Bool) → (x && y) ≡ true → y ≡ true
-right_of true y e = e
-right_of false y e = absurd cc
 
 not_large : (q : ℕ) → nat_lt q (2 ^ 32) ≡ true → nat_le (2 ^ 32) q ≡ false
 not_large q e = grind (arith, nat_tests)
@@ -52,7 +49,7 @@ seated : {S : Type 0} (q bound : ℕ) (missed : Bool) (list : List Due) (slot : 
     → IfSome (option_map seat_of slot) (λ seat. IsSeated bound missed list q seat)
 seated q bound missed list None w l a = tt
 seated q bound missed list (Some c) w l a =
-    let large : nat_le (2 ^ 32) q ≡ false = not_large q (right_of (nat_lt q bound) (nat_lt q (2 ^ 32)) w) in
+    let large : nat_le (2 ^ 32) q ≡ false = not_large q (and_parts (nat_lt q bound) (nat_lt q (2 ^ 32)) w).1 in
     record {
       within = w;
       listed = λ h. listed_of (nat_le (2 ^ 32) q) c.is_due (stands_in q c.number list) large l h;

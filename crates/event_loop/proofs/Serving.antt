@@ -2,12 +2,11 @@
 use Rattle.std.proofs.Common.{arith, ◌≡◌, ◌<◌, ◌≤◌, ◌+◌, ◌^◌, ℕ, suc, zero, List, [], ◌∷◌, length, drop, get_or, add-one, Bool, true, false, Option, Some, None, sym, ap, ◌∙◌, refl, subst, inl, inr}
 use Rattle.std.specs.Prelude.{IfSome, IsTrue, ◌&&◌, ◌==◌, nat_lt, is_some}
 use Rattle.std.specs.Bool.{MatchBool}
-use Rattle.std.proofs.lemmas.Bool.{ltb-true}
+use Rattle.std.proofs.lemmas.Bool.{and_parts, ltb-true}
 use Rattle.std.proofs.Math.Seq.{drop-cons}
 use Rattle.std.specs.Option.{option_map_or}
 use Rattle.slab.specs.Slab.{get}
 use Rattle.outbox.specs.Traffic.{Traffic}
-use Rattle.outbox.proofs.Single.{right_true}
 use Rattle.connection_turns.specs.declared.connection.Connection.{Connection}
 use Rattle.due_list.specs.declared.due.Due.{Due}
 use Rattle.open_connections.specs.declared.open.Open.{Open}
@@ -18,8 +17,8 @@ use Rattle.open_connections.specs.Looping.{LetGo, Stays}
 use Rattle.open_connections.specs.Opened.{has_time, is_open_at, is_there, lanes_of}
 use Rattle.open_connections.specs.Turns.{StatesStay}
 use Rattle.open_connections.specs.Woken.{TurnsStay}
-use Rattle.open_connections.proofs.Looping.{before_step, stays, stays_then}
-use Rattle.open_connections.proofs.Keeping.{keep_then}
+use Rattle.open_connections.specs.Laws.{JoinsStates, JoinsSteps}
+use Rattle.event_loop.proofs.Looping.{stays}
 use Rattle.event_loop.specs.Turns.{Follows, PutsOff, ServesEach, ServesOne, TakesTurnAt}
 
 -- what is so at a small number
@@ -48,10 +47,10 @@ pub leads_through : {S C T : Type 0} (s : CoreSteps C) (told : S → Option Traf
 leads_through s told may_wait longs all i start now end l h e = h end (subst (λ (ds : List Due). ServesEach s told may_wait longs ds now end) (sym (none_dropped all i l)) e)
 
 -- what follows from where nothing changed
-pub follows_then : {S C T : Type 0} (s : CoreSteps C) (told : S → Option Traffic) (key : ℕ) (result : Outcome) (a b c : Open S C T) → Stays (lanes_of told a) (lanes_of told b) → StatesStay a b → Follows s told key result b c → Follows s told key result a c
-follows_then s told key outcome.Open a b c h k f = elim f [ inl d ↦ inl (before_step s (LetGo key) (lanes_of told a) (lanes_of told b) (lanes_of told c) h d) | inr t ↦ inr (stays_then _ _ _ h t.0, keep_then _ _ _ _ k t.1) ]
-follows_then s told key (outcome.Over how) a b c h k f = before_step s (LetGo key) (lanes_of told a) (lanes_of told b) (lanes_of told c) h f
-follows_then s told key outcome.Closed a b c h k f = before_step s (LetGo key) (lanes_of told a) (lanes_of told b) (lanes_of told c) h f
+pub follows_then : {S C T : Type 0} {s : CoreSteps C} → JoinsSteps s → JoinsStates S C T → (told : S → Option Traffic) (key : ℕ) (result : Outcome) (a b c : Open S C T) → Stays (lanes_of told a) (lanes_of told b) → StatesStay a b → Follows s told key result b c → Follows s told key result a c
+follows_then j i told key outcome.Open a b c h k f = elim f [ inl d ↦ inl (j.before (LetGo key) _ _ _ h d) | inr t ↦ inr (j.twice _ _ _ h t.0, i.twice a b c k t.1) ]
+follows_then j i told key (outcome.Over how) a b c h k f = j.before (LetGo key) _ _ _ h f
+follows_then j i told key outcome.Closed a b c h k f = j.before (LetGo key) _ _ _ h f
 
 pub unchanged : {S C T : Type 0} (told : S → Option Traffic) (a b : Open S C T) → b ≡ a → Stays (lanes_of told a) (lanes_of told b)
 unchanged {S} {C} {T} told a b e = subst (λ (x : Open S C T). Stays (lanes_of told a) (lanes_of told x)) (sym e) (stays (lanes_of told a))
@@ -63,7 +62,7 @@ there_open key number (Some c) e = refl
 
 pub there_small : {S : Type 0} (key number : ℕ) (slot : Option (Connection S)) → option_map_or (λ c. c.number == number && nat_lt key (2 ^ 32)) slot false ≡ true → key < 2 ^ 32
 there_small key number None e = absurd cc
-there_small key number (Some c) e = ltb-true key (2 ^ 32) (right_true (c.number == number) (nat_lt key (2 ^ 32)) e)
+there_small key number (Some c) e = ltb-true key (2 ^ 32) (and_parts (c.number == number) (nat_lt key (2 ^ 32)) e).1
 
 at_true : (P Q : Type 0) (b : Bool) → b ≡ true → P → MatchBool b P Q
 at_true P Q true e p = p

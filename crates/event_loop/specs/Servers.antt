@@ -1,5 +1,5 @@
 -- A server of many connections, as its clauses see it: this project's own.
-use Rattle.std.specs.Prelude.{◌≡◌, ℕ, Bool, IsFalse, List, [], ◌∷◌, Option, None, slice_index_or}
+use Rattle.std.specs.Prelude.{◌≡◌, ◌⊎◌, ◌^◌, ◌+◌, ℕ, Bool, IsFalse, IsTrue, List, [], ◌∷◌, length, Option, None, IfSome, slice_index_or}
 use Rattle.outbox.specs.Lines.{Line}
 use Rattle.outbox.specs.Traffic.{Traffic}
 use Rattle.connection_turns.specs.declared.claim.Claim.{Claim}
@@ -11,11 +11,13 @@ use Rattle.open_connections.specs.Looping.{Lanes, ServesNoNew}
 use Rattle.open_connections.specs.Opened.{claimed, connected_in, listed, shown}
 use Rattle.open_connections.specs.Joined.{Joined}
 use Rattle.due_list.specs.declared.due.Due.{Due}
+use Rattle.event_loop.specs.declared.fault.LoopFault.{LoopFault}
+use Rattle.event_loop.specs.declared.fault.LoopFault.TheVariants.{Memory, Net}
 use Rattle.event_loop.specs.Seats.{AreSeated, Seat, seats_of, turns_of}
 use Rattle.event_loop.specs.Turns.{GoesRound}
 
 -- whether it takes in connections, the seconds of grace once a drain was asked for, how many are open and were taken in, the bytes read and written, its limits, the budgets of memory, the core that answers, and by key what each connection that is served is owed, what the stream of each that is open shows, and what it claims of the budgets; of those that are open who is due and what may be done without a wait, the turns of the next round, below which bound
--- all keys are, and whether memory was refused for that list
+-- all keys are, whether memory was refused for that list, and whether the system's last wait failed, if that shows it
 pub record Serving (C : Type 0) : Type 0 where
   pub listens : Bool
   pub grace : Option ℕ
@@ -33,6 +35,7 @@ pub record Serving (C : Type 0) : Type 0 where
   pub turns : List Due
   pub bound : ℕ
   pub has_missed : Bool
+  pub failed : Option Bool
 
 -- as the steps of the loop see it
 abbrev pub lanes_in : {C : Type 0} → Serving C → Lanes C
@@ -72,6 +75,18 @@ GoesRounds S T s told may_wait longs (next ∷ rounds) old new = IsRound S T s t
 -- some rounds, or none
 abbrev pub GoesSomeRounds : (S T : Type 0) {C : Type 0} → CoreSteps C → (S → Option Traffic) → (may_wait longs : ℕ → C → Bool) → (old new : Serving C) → Type 0
 GoesSomeRounds S T {C} s told may_wait longs old new = (rounds : List (Serving C)) × GoesRounds S T s told may_wait longs rounds old new
+
+-- Why a round fails: of a fault of the network, that the system's last wait failed. Memory may be refused at any time.
+abbrev pub ComesOfWaiting : LoopFault → (failed : Option Bool) → Type 0
+ComesOfWaiting (Net reason) failed = IfSome failed IsTrue
+ComesOfWaiting Memory failed = Unit {0}
+
+-- A run that fails is some rounds and one that fails, or as many rounds as there may be.
+pub record FailsBehind (S T : Type 0) {C : Type 0} (s : CoreSteps C) (told : S → Option Traffic) (may_wait longs : ℕ → C → Bool) (fault : LoopFault) (old new : Serving C) : Type 0 where
+  pub rounds : List (Serving C)
+  pub last : Serving C
+  pub goes : GoesRounds S T s told may_wait longs rounds old last
+  pub fails : ComesOfWaiting fault new.failed ⊎ (length rounds + 1 ≡ 2 ^ 64)
 
 -- it takes in no connection any more, and none is open
 pub record IsOver {C : Type 0} (server : Serving C) : Type 0 where

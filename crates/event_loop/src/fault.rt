@@ -1,5 +1,7 @@
 //! Why a server ends early.
 
+ghost use Rattle.std.specs.Prelude.{◌≡◌};
+
 use socket_poll::BindFault;
 use std::alloc::{AllocError, AllocFailed};
 use std::io::{self, ErrorKind};
@@ -38,6 +40,10 @@ impl From<BindFault> for LoopFault {
 }
 
 impl From<AllocError> for LoopFault {
+    ghost use Rattle.event_loop.specs.declared.fault.LoopFault.TheVariants.{Memory};
+
+    ghost from_gives = { λ _ fault. fault ≡ Memory };
+
     fn from(_: AllocError) -> LoopFault {
         LoopFault::Memory
     }

@@ -1,11 +1,12 @@
 //! The rounds of a loop: each waits for what is ready, takes connections in, and gives turns.
-ghost use Rattle.std.specs.Prelude.{◌≡◌, ◌<◌, ◌^◌, ◌&&◌, [], ℕ, None, is_some, not, IfOk, IfSome, OnOk, IsFalse, IsTrue};
+ghost use Rattle.std.specs.Prelude.{◌≡◌, ◌<◌, ◌^◌, ◌&&◌, [], ℕ, None, is_some, not, IfErr, IfOk, IfSome, OnOk, IsFalse, IsTrue};
 ghost use Rattle.outbox.specs.Traffic.{IsUnused};
 ghost use Rattle.open_connections.specs.Looping.{Stays, Does, DoesSome, DoesOn, DoesAtMost, TurnsAtMost, LetGo};
 ghost use Rattle.open_connections.specs.Opened.{lanes_of, connected_in, expiry_at, has_time, is_open_at, is_there, IsPutOff};
 ghost use Rattle.open_connections.specs.Joined.{Joined};
 ghost use Rattle.open_connections.specs.Shares.{claim_at, fresh_budgets};
 ghost use Rattle.event_loop.specs.Drains.{parting_of};
+ghost use Rattle.event_loop.specs.Servers.{ComesOfWaiting};
 ghost use Rattle.event_loop.specs.Turns.{Follows, GetsTurnAt, GoesRound, ServesOne, TakesTurnAt, TakesTurns};
 ghost use Rattle.open_connections.specs.Turns.{OthersStand, StatesStay};
 ghost use Rattle.open_connections.specs.Woken.{IsWoken, Passes, Serves, StaysWoken, TakesOff, Wakes};
@@ -17,7 +18,7 @@ use crate::parting::Parting;
 use crate::seconds::Seconds;
 use admin_connections::Desk;
 use connection_turns::{Counts, End, Limits, Outcome};
-use open_connections::{Due, Journal, LoopCore, Open, Totals};
+use open_connections::{Due, Journal, LoopCore, Open, Totals, states_join, steps_join, turns_pass};
 use socket_poll::{Accepted, Report, System, Time, Woken};
 use std::alloc::Global;
 use std::net::SocketAddr;
@@ -148,6 +149,7 @@ impl<S: System + Drop, C: LoopCore, T: Time + Drop> Rounds<S, C, T> {
         ensures drains { OnOk result (IsTrue (is_some self.new.desk.standing.grace) → IsFalse self.new.acceptor.listens) }
         ensures turns { OnOk result (GoesRound C.steps S.Stream.told C.may_wait C.longs self.old.opened self.new.opened) }
         ensures woken { IsWoken [] self.old.opened → OnOk result (IsWoken [] self.new.opened) }
+        ensures fault { IfErr result (λ e. ComesOfWaiting e (S.failed self.new.system)) }
     {
         let listens = self.acceptor.listens;
         let done = self.go_round(listens, journal);
@@ -161,6 +163,7 @@ impl<S: System + Drop, C: LoopCore, T: Time + Drop> Rounds<S, C, T> {
         ensures deaf { IsFalse listens → IsFalse self.new.acceptor.listens }
         ensures fewer { IsFalse self.old.acceptor.listens → IsFalse self.new.acceptor.listens }
         ensures asked { self.new.desk.standing ≡ self.old.desk.standing }
+        ensures system { self.new.system ≡ self.old.system }
     {
         self.acceptor.listens = self.acceptor.listens && listens;
     }
@@ -172,7 +175,9 @@ impl<S: System + Drop, C: LoopCore, T: Time + Drop> Rounds<S, C, T> {
         ensures drains { OnOk result (IsTrue (is_some self.new.desk.standing.grace) → IsFalse self.new.acceptor.listens) }
         ensures turns { OnOk result (GoesRound C.steps S.Stream.told C.may_wait C.longs self.old.opened self.new.opened) }
         ensures woken { IsWoken [] self.old.opened → OnOk result (IsWoken [] self.new.opened) }
+        ensures fault { IfErr result (λ e. ComesOfWaiting e (S.failed self.new.system)) }
     {
+        steps_join::<C>();
         // the clock is read before the wait: what it says of idle connections is so only if nothing was reported since
         let is_later = self.is_later();
         self.wait(is_later)?;
@@ -197,6 +202,7 @@ impl<S: System + Drop, C: LoopCore, T: Time + Drop> Rounds<S, C, T> {
     fn wait(&mut self, is_later: bool) -> Result<(), LoopFault>
         ensures lanes { Stays (lanes_of S.Stream.told self.old.opened) (lanes_of S.Stream.told self.new.opened) }
         ensures woken { StaysWoken self.old.opened self.new.opened }
+        ensures fault { IfErr result (λ e. ComesOfWaiting e (S.failed self.new.system)) }
     {
         if is_later {
             return self.catch_up();
@@ -208,6 +214,7 @@ impl<S: System + Drop, C: LoopCore, T: Time + Drop> Rounds<S, C, T> {
     fn catch_up(&mut self) -> Result<(), LoopFault>
         ensures lanes { Stays (lanes_of S.Stream.told self.old.opened) (lanes_of S.Stream.told self.new.opened) }
         ensures woken { StaysWoken self.old.opened self.new.opened }
+        ensures fault { IfErr result (λ e. ComesOfWaiting e (S.failed self.new.system)) }
     {
         'waits: for _ in 0..=self.opened.count() / REPORTS {
             self.wait_once(Duration::from_millis(0))?;
@@ -219,6 +226,7 @@ impl<S: System + Drop, C: LoopCore, T: Time + Drop> Rounds<S, C, T> {
     fn wait_once(&mut self, most: Duration) -> Result<(), LoopFault>
         ensures lanes { Stays (lanes_of S.Stream.told self.old.opened) (lanes_of S.Stream.told self.new.opened) }
         ensures woken { StaysWoken self.old.opened self.new.opened }
+        ensures fault { IfErr result (λ e. ComesOfWaiting e (S.failed self.new.system)) }
     {
         let woken = self.system.wait(most)?;
         self.heed(woken);
@@ -291,6 +299,7 @@ impl<S: System + Drop, C: LoopCore, T: Time + Drop> Rounds<S, C, T> {
         ensures woken { StaysWoken self.old.opened self.new.opened }
         ensures tried { IsTrue (self.old.acceptor.is_asked && not self.old.acceptor.is_refused) → connected_in self.old.opened < self.old.limits.connections → IfSome (S.tried self.new.system) IsTrue }
     {
+        steps_join::<C>();
         'accepts: for _accepted in 0..ACCEPTS {
             if !self.may_accept() {
                 return;
@@ -355,6 +364,7 @@ impl<S: System + Drop, C: LoopCore, T: Time + Drop> Rounds<S, C, T> {
         ensures woken { StaysWoken self.old.opened self.new.opened }
         ensures tried { S.tried self.new.system ≡ S.tried self.old.system }
     {
+        steps_join::<C>();
         let place = self.instead_of(place);
         self.acceptor.is_refused = !matches!(place, Room::Idle(_));
         self.displace(place, journal);
@@ -385,6 +395,7 @@ impl<S: System + Drop, C: LoopCore, T: Time + Drop> Rounds<S, C, T> {
         ensures woken { StaysWoken self.old.opened self.new.opened }
         ensures tried { S.tried self.new.system ≡ S.tried self.old.system }
     {
+        steps_join::<C>();
         self.displace(place, journal);
         self.take_in(stream, peer);
     }
@@ -395,6 +406,7 @@ impl<S: System + Drop, C: LoopCore, T: Time + Drop> Rounds<S, C, T> {
         ensures woken { StaysWoken self.old.opened self.new.opened }
         ensures tried { S.tried self.new.system ≡ S.tried self.old.system }
     {
+        turns_pass::<S::Stream, C, T>();
         match place {
             Room::Idle(key) => self.finish(key, End::Displaced, journal),
             Room::Free | Room::Full => {}
@@ -408,6 +420,7 @@ impl<S: System + Drop, C: LoopCore, T: Time + Drop> Rounds<S, C, T> {
         ensures woken { StaysWoken self.old.opened self.new.opened }
         ensures tried { S.tried self.new.system ≡ S.tried self.old.system }
     {
+        steps_join::<C>();
         let Some(key) = self.opened.vacant() else {
             return;
         };
@@ -436,7 +449,9 @@ impl<S: System + Drop, C: LoopCore, T: Time + Drop> Rounds<S, C, T> {
         ensures lanes { DoesOn C.steps (lanes_of S.Stream.told self.old.opened) (lanes_of S.Stream.told self.new.opened) }
         ensures each { OnOk result (TakesTurns C.steps S.Stream.told C.may_wait C.longs self.old.opened self.new.opened) }
         ensures woken { IsWoken [] self.old.opened → OnOk result (IsWoken [] self.new.opened) }
+        ensures refused { IfErr result (λ e. e ≡ LoopFault.Memory) }
     {
+        steps_join::<C>();
         let list = self.opened.take_due()?;
         'turns: for due in &list {
             self.serve(*due, journal)?;
@@ -452,7 +467,9 @@ impl<S: System + Drop, C: LoopCore, T: Time + Drop> Rounds<S, C, T> {
         ensures gone { IsFalse (is_there due self.old.opened) → Stays (lanes_of S.Stream.told self.old.opened) (lanes_of S.Stream.told self.new.opened) }
         ensures serves { OnOk result (ServesOne C.steps S.Stream.told C.may_wait C.longs due self.old.opened self.new.opened) }
         ensures woken { OnOk result (Passes due self.old.opened self.new.opened) }
+        ensures refused { IfErr result (λ e. e ≡ LoopFault.Memory) }
     {
+        turns_pass::<S::Stream, C, T>();
         if !self.opened.has_time(due) {
             return self.put_off(due);
         }
@@ -469,6 +486,7 @@ impl<S: System + Drop, C: LoopCore, T: Time + Drop> Rounds<S, C, T> {
         ensures ready { StatesStay self.old.opened self.new.opened }
         ensures kept { OnOk result (IsPutOff due self.old.opened self.new.opened) }
         ensures woken { OnOk result (Passes due self.old.opened self.new.opened) }
+        ensures refused { IfErr result (λ e. e ≡ LoopFault.Memory) }
     {
         Ok(self.opened.put_off(due)?)
     }
@@ -479,6 +497,8 @@ impl<S: System + Drop, C: LoopCore, T: Time + Drop> Rounds<S, C, T> {
         ensures takes { IsTrue (is_open_at key self.old.opened) → key < 2 ^ 32 → TakesTurnAt C.steps S.Stream.told C.may_wait key self.old.opened self.new.opened }
         ensures woken { Serves key self.old.opened self.new.opened }
     {
+        steps_join::<C>();
+        states_join::<S::Stream, C, T>();
         let outcome = self.turn(key);
         self.follow(key, outcome, journal);
     }
@@ -492,6 +512,8 @@ impl<S: System + Drop, C: LoopCore, T: Time + Drop> Rounds<S, C, T> {
         ensures there { is_open_at key self.new.opened ≡ is_open_at key self.old.opened }
         ensures woken { TakesOff key self.old.opened self.new.opened }
     {
+        steps_join::<C>();
+        states_join::<S::Stream, C, T>();
         let (outcome, has_moved) = self.opened.turn(key, self.seconds.last());
         self.mark_moved(key, has_moved);
         outcome
@@ -534,6 +556,8 @@ impl<S: System + Drop, C: LoopCore, T: Time + Drop> Rounds<S, C, T> {
         ensures follows { IsTrue (is_open_at key self.old.opened) → key < 2 ^ 32 → Follows C.steps S.Stream.told key Outcome.Open self.old.opened self.new.opened }
         ensures woken { Wakes key self.old.opened self.new.opened }
     {
+        steps_join::<C>();
+        states_join::<S::Stream, C, T>();
         self.tell_slow(journal);
         match self.opened.settle(key, self.seconds.last()) {
             Ok(()) => {}
@@ -600,6 +624,7 @@ impl<S: System + Drop, C: LoopCore, T: Time + Drop> Rounds<S, C, T> {
         ensures lanes { DoesOn C.steps (lanes_of S.Stream.told self.old.opened) (lanes_of S.Stream.told self.new.opened) }
         ensures woken { StaysWoken self.old.opened self.new.opened }
     {
+        steps_join::<C>();
         if !is_later {
             return;
         }
@@ -612,6 +637,7 @@ impl<S: System + Drop, C: LoopCore, T: Time + Drop> Rounds<S, C, T> {
         ensures lanes { DoesOn C.steps (lanes_of S.Stream.told self.old.opened) (lanes_of S.Stream.told self.new.opened) }
         ensures woken { StaysWoken self.old.opened self.new.opened }
     {
+        steps_join::<C>();
         'keys: for key in 0..self.opened.bound() {
             self.expire(key, journal);
         }

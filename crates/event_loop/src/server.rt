@@ -1,6 +1,6 @@
 //! A server of many connections.
-ghost use Rattle.std.specs.Prelude.{◌≡◌, ℕ, None, is_some, OnOk, IfOk, IsTrue, IsFalse};
-ghost use Rattle.event_loop.specs.Servers.{AreJoined, GivesTurns, GoesSomeRounds, IsOver, NobodyIsForgotten, StaysDeaf, lanes_in};
+ghost use Rattle.std.specs.Prelude.{◌≡◌, ℕ, None, is_some, OnOk, IfErr, IfOk, IsTrue, IsFalse};
+ghost use Rattle.event_loop.specs.Servers.{AreJoined, ComesOfWaiting, FailsBehind, GivesTurns, GoesSomeRounds, IsOver, NobodyIsForgotten, StaysDeaf, lanes_in};
 ghost use Rattle.open_connections.specs.Looping.{DoesSome};
 ghost use Rattle.open_connections.specs.Shares.{fresh_budgets, limits_in, IsWithin};
 
@@ -8,7 +8,7 @@ use crate::fault::LoopFault;
 use crate::rounds::Rounds;
 use admin_pages::About;
 use connection_turns::Limits;
-use open_connections::{Journal, LoopCore, Totals};
+use open_connections::{Journal, LoopCore, Totals, steps_join};
 use socket_poll::{Since, Sockets, System, Time};
 use std::alloc::Global;
 use std::io::ErrorKind;
@@ -32,7 +32,7 @@ impl<S: System + Drop, C: LoopCore, T: Time + Drop> Model for Server<S, C, T> {
 
     ghost Value = { Serving C };
 
-    ghost view = { λ s. record { listens = s.rounds.acceptor.listens; grace = s.rounds.desk.standing.grace; connected = connected_in s.rounds.opened; taken = s.rounds.acceptor.taken; read = s.rounds.opened.read; written = s.rounds.opened.written; limits = s.rounds.limits; budgets = s.rounds.opened.budgets; core = s.rounds.opened.core; lines = listed s.rounds.opened.connections; wires = shown S.Stream.told s.rounds.opened.connections; claims = claimed s.rounds.opened.connections; seats = seats_of s.rounds.opened.connections; turns = turns_of s.rounds.opened; bound = s.rounds.opened.bound; has_missed = s.rounds.opened.has_missed } };
+    ghost view = { λ s. record { listens = s.rounds.acceptor.listens; grace = s.rounds.desk.standing.grace; connected = connected_in s.rounds.opened; taken = s.rounds.acceptor.taken; read = s.rounds.opened.read; written = s.rounds.opened.written; limits = s.rounds.limits; budgets = s.rounds.opened.budgets; core = s.rounds.opened.core; lines = listed s.rounds.opened.connections; wires = shown S.Stream.told s.rounds.opened.connections; claims = claimed s.rounds.opened.connections; seats = seats_of s.rounds.opened.connections; turns = turns_of s.rounds.opened; bound = s.rounds.opened.bound; has_missed = s.rounds.opened.has_missed; failed = S.failed s.rounds.system } };
 }
 
 impl<'r, R: Net + Clock + AllocGlobal, C: LoopCore> Server<Sockets, C, Since<'r, R>> {
@@ -149,6 +149,7 @@ impl<S: System + Drop, C: LoopCore, T: Time + Drop> Server<S, C, T> {
         ensures over { OnOk result (IsOver self.new) }
         ensures steps { DoesSome C.steps (lanes_in self.old) (lanes_in self.new) }
         ensures rounds { OnOk result (GoesSomeRounds S.Stream T C.steps S.Stream.told C.may_wait C.longs self.old self.new) }
+        ensures fails { IfErr result (λ fault. FailsBehind S.Stream T C.steps S.Stream.told C.may_wait C.longs fault self.old self.new) }
         ensures deaf { IsFalse self.old.listens → StaysDeaf self.old self.new }
         ensures limits { limits_in self.new.budgets ≡ limits_in self.old.budgets }
         ensures joined { AreJoined self.old → AreJoined self.new }
@@ -171,9 +172,11 @@ impl<S: System + Drop, C: LoopCore, T: Time + Drop> Server<S, C, T> {
         ensures over { OnOk result (IsOver self.new) }
         ensures steps { DoesSome C.steps (lanes_in self.old) (lanes_in self.new) }
         ensures rounds { OnOk result (GoesSomeRounds S.Stream T C.steps S.Stream.told C.may_wait C.longs self.old self.new) }
+        ensures fails { IfErr result (λ fault. FailsBehind S.Stream T C.steps S.Stream.told C.may_wait C.longs fault self.old self.new) }
         ensures deaf { IsFalse self.old.listens → StaysDeaf self.old self.new }
     {
-        'rounds: for _ in 0..u64::MAX {
+        steps_join::<C>();
+        'rounds: for _gone in 0..u64::MAX {
             if self.is_over() {
                 return Ok(());
             }
@@ -203,6 +206,7 @@ impl<S: System + Drop, C: LoopCore, T: Time + Drop> Server<S, C, T> {
         ensures drains { OnOk result (IsTrue (is_some self.new.grace) → IsFalse self.new.listens) }
         ensures turns { OnOk result (GivesTurns S.Stream T C.steps S.Stream.told C.may_wait C.longs self.old self.new) }
         ensures woken { NobodyIsForgotten self.old → OnOk result (NobodyIsForgotten self.new) }
+        ensures fault { IfErr result (λ fault. ComesOfWaiting fault self.new.failed) }
         ensures limits { limits_in self.new.budgets ≡ limits_in self.old.budgets }
         ensures joined { AreJoined self.old → AreJoined self.new }
         ensures within { IsWithin self.new.budgets }
@@ -218,7 +222,9 @@ impl<S: System + Drop, C: LoopCore, T: Time + Drop> Server<S, C, T> {
         ensures drains { OnOk result (IsTrue (is_some self.new.grace) → IsFalse self.new.listens) }
         ensures turns { OnOk result (GivesTurns S.Stream T C.steps S.Stream.told C.may_wait C.longs self.old self.new) }
         ensures woken { NobodyIsForgotten self.old → OnOk result (NobodyIsForgotten self.new) }
+        ensures fault { IfErr result (λ fault. ComesOfWaiting fault self.new.failed) }
     {
+        steps_join::<C>();
         self.rounds.step(journal)
     }
 }

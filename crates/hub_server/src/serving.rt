@@ -1,6 +1,6 @@
 //! A server of many connections over a hub.
-ghost use Rattle.std.specs.Prelude.{◌≡◌, is_some, OnOk, IsTrue, IsFalse};
-ghost use Rattle.event_loop.specs.Servers.{AreJoined, GivesTurns, IsOver, NobodyIsForgotten, StaysDeaf, lanes_in};
+ghost use Rattle.std.specs.Prelude.{◌≡◌, is_some, IfErr, OnOk, IsTrue, IsFalse};
+ghost use Rattle.event_loop.specs.Servers.{AreJoined, ComesOfWaiting, GivesTurns, IsOver, NobodyIsForgotten, StaysDeaf, lanes_in};
 ghost use Rattle.hub_server.specs.Looping.{AreServed};
 ghost use Rattle.hub_server.specs.Measuring.{hub_longs, hub_steps, hub_waits};
 ghost use Rattle.open_connections.specs.Shares.{limits_in, IsWithin};
@@ -45,6 +45,7 @@ pub fn step<S: System + Drop, T: Time + Drop, J: Journal>(
     ensures drains { OnOk result (IsTrue (is_some server.new.grace) → IsFalse server.new.listens) }
     ensures turns { OnOk result (GivesTurns S.Stream T hub_steps S.Stream.told hub_waits hub_longs server.old server.new) }
     ensures woken { NobodyIsForgotten server.old → OnOk result (NobodyIsForgotten server.new) }
+    ensures fault { IfErr result (λ fault. ComesOfWaiting fault server.new.failed) }
     ensures limits { limits_in server.new.budgets ≡ limits_in server.old.budgets }
     ensures joined { AreJoined server.old → AreJoined server.new }
     ensures within { IsWithin server.new.budgets }

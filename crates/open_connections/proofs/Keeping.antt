@@ -148,9 +148,6 @@ open_alike {S} key a b h = still (get a.connections key) (get b.connections key)
     still (Some c) None e = absurd cc
     still (Some c) (Some d) e = refl
 
-pub open_still : {S C T : Type 0} (key : ℕ) (a b : Open S C T) → StatesStay a b → is_open_at key a ≡ true → is_open_at key b ≡ true
-open_still key a b h e = open_alike key a b h ∙ e
-
 -- ---- What becomes of the others
 
 pub others_stand : {S C T : Type 0} (key : ℕ) (a b : Open S C T) → StatesStay a b → OthersStand key a b

@@ -1,7 +1,5 @@
 -- Steps one after the other.
-use Rattle.std.proofs.Common.{◌≡◌, ℕ, Bool, true, false, List, [], ◌∷◌, ◌++◌, Option, Some, None, sym, ap, ◌∙◌, subst, refl, inl, inr}
-use Rattle.std.specs.Prelude.{MatchBool, ◌≢◌, ◌==◌}
-use Rattle.std.proofs.lemmas.Bool.{cases_Bool, eqb-true, eqb-false}
+use Rattle.std.proofs.Common.{◌≡◌, ℕ, Option, sym, ◌∙◌, subst, refl, inl, inr}
 use Rattle.outbox.specs.Lines.{Line}
 use Rattle.outbox.specs.Traffic.{Traffic, IsUnused, IsReadOn}
 use Rattle.connection_turns.specs.Turning.{TakesTurn}
@@ -10,10 +8,7 @@ use Rattle.connection_turns.specs.declared.claim.Claim.{Claim}
 use Rattle.open_connections.specs.declared.budgets.Budgets.{Budgets}
 use Rattle.open_connections.specs.Joined.{Joined}
 use Rattle.open_connections.specs.Shares.{limits_in}
-use Rattle.open_connections.specs.Looping.{CountsMoved, Lanes, Step, TakenIn, HasTurn, LetGo, Drained, OthersStay, Does, DoesEach, DoesSome, DoesAtMost, TurnsAtMost, Stays, TakesNone, DoesOn, ServesNoNew}
-
-pub stays : {C : Type 0} (a : Lanes C) → Stays a a
-stays a = record { core_stays = refl; lines_stay = λ q. refl; wires_stay = λ q. refl; limits_stay = refl; joined = λ h. h; bytes_stay = refl }
+use Rattle.open_connections.specs.Looping.{CountsMoved, Lanes, Step, TakenIn, HasTurn, LetGo, Drained, OthersStay, Does, DoesAtMost, TurnsAtMost, Stays}
 
 -- only the budgets change
 pub stays_in : {C : Type 0} (core : C) (lines : ℕ → Option Line) (wires : ℕ → Option Traffic) (claims : ℕ → Option Claim) (budgets budgets' : Budgets) (bytes : ℕ × ℕ) → limits_in budgets' ≡ limits_in budgets → (Joined claims budgets → Joined claims budgets')
@@ -114,103 +109,3 @@ at_most_then s step a b c d h = elim d [ inl x ↦ inl (step_then s step a b c x
 
 pub then_turn : {C : Type 0} (s : CoreSteps C) (conn : ℕ) (a b c : Lanes C) → Stays a b → TurnsAtMost s conn b c → TurnsAtMost s conn a c
 then_turn s conn a b c h d = elim d [ inl x ↦ inl (before_step s (HasTurn conn) a b c h x) | inr k ↦ inr (then_at_most s (Drained conn) a b c h k) ]
-
-pub turn_then : {C : Type 0} (s : CoreSteps C) (conn : ℕ) (a b c : Lanes C) → TurnsAtMost s conn a b → Stays b c → TurnsAtMost s conn a c
-turn_then s conn a b c d h = elim d [ inl x ↦ inl (step_then s (HasTurn conn) a b c x h) | inr k ↦ inr (at_most_then s (Drained conn) a b c k h) ]
-
-before_each : {C : Type 0} (s : CoreSteps C) (steps : List Step) (a b c : Lanes C) → Stays a b → DoesEach s steps b c → DoesEach s steps a c
-before_each s [] a b c h d = stays_then a b c h d
-before_each s (step ∷ steps) a b c h d = (d.0, before_step s step a b d.0 h d.1, d.2)
-
-each_then : {C : Type 0} (s : CoreSteps C) (steps more : List Step) (a b c : Lanes C) → DoesEach s steps a b → DoesEach s more b c → DoesEach s (steps ++ more) a c
-each_then s [] more a b c h d = before_each s more a b c h d
-each_then s (step ∷ steps) more a b c h d = (h.0, h.1, each_then s steps more h.0 b c h.2 d)
-
-pub some_then : {C : Type 0} (s : CoreSteps C) (a b c : Lanes C) → DoesSome s a b → DoesSome s b c → DoesSome s a c
-some_then s a b c h d = (h.0 ++ d.0, each_then s h.0 d.0 a b c h.1 d.1)
-
-pub no_step : {C : Type 0} (s : CoreSteps C) (a b : Lanes C) → Stays a b → DoesSome s a b
-no_step s a b h = ([], h)
-
-pub at_most_some : {C : Type 0} (s : CoreSteps C) (step : Step) (a b : Lanes C) → DoesAtMost s step a b → DoesSome s a b
-at_most_some s step a b d = elim d [ inl x ↦ (step ∷ [], (b, x, stays b)) | inr k ↦ no_step s a b k ]
-
-pub turn_some : {C : Type 0} (s : CoreSteps C) (conn : ℕ) (a b : Lanes C) → TurnsAtMost s conn a b → DoesSome s a b
-turn_some s conn a b d = elim d [ inl x ↦ at_most_some s (HasTurn conn) a b (inl x) | inr k ↦ at_most_some s (Drained conn) a b k ]
-
-pub taken_some : {C : Type 0} (s : CoreSteps C) (conn : ℕ) (taken : Bool) (a b : Lanes C) → MatchBool taken (Does s (TakenIn conn) a b) (Stays a b) → DoesSome s a b
-taken_some s conn true a b d = at_most_some s (TakenIn conn) a b (inl d)
-taken_some s conn false a b d = no_step s a b d
-
-limits_at : {C : Type 0} (s : CoreSteps C) (step : Step) (a b : Lanes C) → Does s step a b → limits_in b.budgets ≡ limits_in a.budgets
-limits_at s (TakenIn conn) a b d = d.others.limits_stay
-limits_at s (HasTurn conn) a b d = d.others.limits_stay
-limits_at s (LetGo conn) a b d = d.others.limits_stay
-limits_at s (Drained conn) a b d = d.others.limits_stay
-
-limits_after : {C : Type 0} (s : CoreSteps C) (steps : List Step) (a b : Lanes C) → DoesEach s steps a b → limits_in b.budgets ≡ limits_in a.budgets
-limits_after s [] a b d = d.limits_stay
-limits_after s (step ∷ steps) a b d = limits_after s steps d.0 b d.2 ∙ limits_at s step a d.0 d.1
-
-pub limits_kept : {C : Type 0} (s : CoreSteps C) (a b : Lanes C) → DoesSome s a b → limits_in b.budgets ≡ limits_in a.budgets
-limits_kept s a b d = limits_after s d.0 a b d.1
-
-joined_at : {C : Type 0} (s : CoreSteps C) (step : Step) (a b : Lanes C) → Does s step a b → Joined a.claims a.budgets → Joined b.claims b.budgets
-joined_at s (TakenIn conn) a b d = d.others.joined
-joined_at s (HasTurn conn) a b d = d.others.joined
-joined_at s (LetGo conn) a b d = d.others.joined
-joined_at s (Drained conn) a b d = d.others.joined
-
-joined_after : {C : Type 0} (s : CoreSteps C) (steps : List Step) (a b : Lanes C) → DoesEach s steps a b → Joined a.claims a.budgets → Joined b.claims b.budgets
-joined_after s [] a b d j = d.joined j
-joined_after s (step ∷ steps) a b d j = joined_after s steps d.0 b d.2 (joined_at s step a d.0 d.1 j)
-
-pub joined_kept : {C : Type 0} (s : CoreSteps C) (a b : Lanes C) → DoesSome s a b → Joined a.claims a.budgets → Joined b.claims b.budgets
-joined_kept s a b d = joined_after s d.0 a b d.1
-
--- steps of which none takes a connection in
-none_in : (steps more : List Step) → TakesNone steps → TakesNone more → TakesNone (steps ++ more)
-none_in [] more h k = k
-none_in (TakenIn conn ∷ steps) more h k = absurd h
-none_in (HasTurn conn ∷ steps) more h k = none_in steps more h k
-none_in (LetGo conn ∷ steps) more h k = none_in steps more h k
-none_in (Drained conn ∷ steps) more h k = none_in steps more h k
-
-pub on_then : {C : Type 0} (s : CoreSteps C) (a b c : Lanes C) → DoesOn s a b → DoesOn s b c → DoesOn s a c
-on_then s a b c h d = (h.0 ++ d.0, none_in h.0 d.0 h.1 d.1, each_then s h.0 d.0 a b c h.2 d.2)
-
-pub no_step_on : {C : Type 0} (s : CoreSteps C) (a b : Lanes C) → Stays a b → DoesOn s a b
-no_step_on s a b h = ([], tt, h)
-
-pub gone_on : {C : Type 0} (s : CoreSteps C) (conn : ℕ) (a b : Lanes C) → DoesAtMost s (LetGo conn) a b → DoesOn s a b
-gone_on s conn a b d = elim d [ inl x ↦ (LetGo conn ∷ [], tt, (b, x, stays b)) | inr k ↦ no_step_on s a b k ]
-
-pub turn_on : {C : Type 0} (s : CoreSteps C) (conn : ℕ) (a b : Lanes C) → TurnsAtMost s conn a b → DoesOn s a b
-turn_on s conn a b d = elim d [
-  | inl x ↦ (HasTurn conn ∷ [], tt, (b, x, stays b))
-  | inr k ↦ elim k [ inl x ↦ (Drained conn ∷ [], tt, (b, x, stays b)) | inr h ↦ no_step_on s a b h ]
-]
-
-pub on_some : {C : Type 0} (s : CoreSteps C) (a b : Lanes C) → DoesOn s a b → DoesSome s a b
-on_some s a b d = (d.0, d.2)
-
--- a connection that is not served before such a step is not served behind it
-none_at : {C : Type 0} (conn : ℕ) (a b : Lanes C) (q : ℕ) → (q ≡ conn → b.lines q ≡ None) → ((q : ℕ) → q ≢ conn → b.lines q ≡ a.lines q) → a.lines q ≡ None → b.lines q ≡ None
-none_at conn a b q here there h = elim (cases_Bool (q == conn)) [
-  | inl e ↦ here (eqb-true q conn e)
-  | inr e ↦ there q (eqb-false q conn e) ∙ h
-]
-
-served_not : (x : Option Line) (line : Line) → x ≡ None → x ≡ Some line → ⊥
-served_not x line h k = absurd cc
-
-not_served : {C : Type 0} (s : CoreSteps C) (steps : List Step) (a b : Lanes C) → TakesNone steps → DoesEach s steps a b → ServesNoNew a b
-not_served s [] a b k d q h = d.lines_stay q ∙ h
-not_served s (TakenIn conn ∷ steps) a b k d q h = absurd k
-not_served s (HasTurn conn ∷ steps) a b k d q h =
-    not_served s steps d.0 b k d.2 q (none_at conn a d.0 q (λ e. absurd (served_not (a.lines q) d.1.line h (ap a.lines e ∙ d.1.was))) d.1.others.lines_stay h)
-not_served s (LetGo conn ∷ steps) a b k d q h = not_served s steps d.0 b k d.2 q (none_at conn a d.0 q (λ e. ap d.0.lines e ∙ d.1.is_gone) d.1.others.lines_stay h)
-not_served s (Drained conn ∷ steps) a b k d q h = not_served s steps d.0 b k d.2 q (none_at conn a d.0 q (λ e. ap d.0.lines e ∙ d.1.is_gone) d.1.others.lines_stay h)
-
-pub serves_no_new : {C : Type 0} (s : CoreSteps C) (a b : Lanes C) → DoesOn s a b → ServesNoNew a b
-serves_no_new s a b d = not_served s d.0 a b d.1 d.2

@@ -1,11 +1,10 @@
 -- What a change of one connection comes to.
 use Rattle.std.proofs.Common.{◌≡◌, ◌≢◌, ◌⊎◌, ℕ, List, [], ◌∷◌, Option, Some, None, sym, ap, ◌∙◌, refl, subst, inl, inr}
-use Rattle.std.specs.Prelude.{◌==◌, is_some, slice_index_or}
+use Rattle.std.specs.Prelude.{◌==◌, is_some}
 use Rattle.std.specs.Option.{option_and_then, option_map}
 use Rattle.std.proofs.lemmas.Bool.{cases_Bool, eqb-true, eqb-false}
 use Rattle.slab.specs.Slab.{Slab, get, with_value, Updates}
 use Rattle.slab.proofs.SlabLemmas.{Updates-with_value}
-use Rattle.std.proofs.Math.ListN.{get_or-map}
 use Rattle.connection_turns.specs.declared.connection.Connection.{Connection}
 use Rattle.outbox.specs.Lines.{Line, Event, Readable, Declined, Answered, Writable, Ends, Fails, Worked, after}
 use Rattle.outbox.specs.Traffic.{Traffic}
@@ -16,9 +15,9 @@ use Rattle.connection_turns.specs.Owed.{line_of, wire_of}
 use Rattle.connection_turns.specs.declared.claim.Claim.{Claim}
 use Rattle.open_connections.specs.declared.budgets.Budgets.{Budgets}
 use Rattle.open_connections.specs.Joined.{Joined}
-use Rattle.open_connections.specs.Opened.{lines_in, wires_in, claimed, listed, shown}
+use Rattle.open_connections.specs.Opened.{lines_in, wires_in}
 use Rattle.open_connections.specs.Shares.{claim_at, limits_in}
-use Rattle.open_connections.proofs.Joined.{claim_is, joined_alike, part_of, same_joined}
+use Rattle.open_connections.proofs.Joined.{claim_is, part_of, same_joined}
 
 abbrev pub lanes : {S C : Type 0} → (S → Option Traffic) → (budgets : Budgets) (bytes : ℕ × ℕ) → C → Slab (Connection S) → Lanes C
 lanes told budgets bytes core slab = record { core = core; lines = lines_in slab; wires = wires_in told slab; claims = claim_at slab; budgets = budgets; bytes = bytes }
@@ -94,22 +93,3 @@ gone_steps {S} {C} s told budgets bytes core core' slab slab' key conn slot n u 
       others = others_stay told budgets bytes bytes core core' slab slab' key slot u j;
       bytes_stay = refl;
     }
-
--- lists of the lines and of what the streams show have those of the connections
-pub listed_at : {S : Type 0} (slab : Slab (Connection S)) (q : ℕ) → slice_index_or (listed slab) q None ≡ lines_in slab q
-listed_at {S} slab q = get_or-map (λ (slot : Option (Connection S)). option_and_then (λ c. line_of c) slot) slab.slots q None
-
-pub shown_at : {S : Type 0} (told : S → Option Traffic) (slab : Slab (Connection S)) (q : ℕ) → slice_index_or (shown told slab) q None ≡ wires_in told slab q
-shown_at {S} told slab q = get_or-map (λ (slot : Option (Connection S)). option_and_then (λ c. wire_of told c) slot) slab.slots q None
-
-pub claimed_at : {S : Type 0} (slab : Slab (Connection S)) (q : ℕ) → slice_index_or (claimed slab) q None ≡ claim_at slab q
-claimed_at {S} slab q = get_or-map (λ (slot : Option (Connection S)). option_and_then (λ c. c.claim) slot) slab.slots q None
-
-abbrev pub listed_lanes : {S C : Type 0} → (S → Option Traffic) → (budgets : Budgets) (bytes : ℕ × ℕ) → C → Slab (Connection S) → Lanes C
-listed_lanes told budgets bytes core slab = record { core = core; lines = λ q. slice_index_or (listed slab) q None; wires = λ q. slice_index_or (shown told slab) q None; claims = λ q. slice_index_or (claimed slab) q None; budgets = budgets; bytes = bytes }
-
-pub from_lists : {S C : Type 0} (told : S → Option Traffic) (budgets : Budgets) (bytes : ℕ × ℕ) (core : C) (slab : Slab (Connection S)) → Stays (listed_lanes told budgets bytes core slab) (lanes told budgets bytes core slab)
-from_lists told budgets bytes core slab = record { core_stays = refl; lines_stay = λ q. sym (listed_at slab q); wires_stay = λ q. sym (shown_at told slab q); limits_stay = refl; joined = joined_alike _ _ budgets (λ q. ap (λ (x : Option Claim). option_map part_of x) (sym (claimed_at slab q))); bytes_stay = refl }
-
-pub to_lists : {S C : Type 0} (told : S → Option Traffic) (budgets : Budgets) (bytes : ℕ × ℕ) (core : C) (slab : Slab (Connection S)) → Stays (lanes told budgets bytes core slab) (listed_lanes told budgets bytes core slab)
-to_lists told budgets bytes core slab = record { core_stays = refl; lines_stay = λ q. listed_at slab q; wires_stay = λ q. shown_at told slab q; limits_stay = refl; joined = joined_alike _ _ budgets (λ q. ap (λ (x : Option Claim). option_map part_of x) (claimed_at slab q)); bytes_stay = refl }

@@ -1,4 +1,5 @@
 pub mod Joined
+pub mod Laws
 pub mod Looping
 pub mod Opened
 pub mod Shares

@@ -6,6 +6,7 @@
 mod bounds;
 mod budgets;
 mod claims;
+mod laws;
 mod needs;
 mod numbers;
 mod open;
@@ -15,5 +16,6 @@ mod waiting;
 pub use budgets::LEAST_MEMORY;
 pub use connection_turns::{Held, Journal, LoopCore, Slow, Totals};
 pub use due_list::Due;
+pub use laws::{states_join, steps_join, turns_pass};
 pub use open::Open;
 pub use waiting::Waiting;

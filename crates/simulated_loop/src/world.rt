@@ -1,6 +1,6 @@
 //! The system, its peers, and a run.
 
-ghost use Rattle.std.specs.Prelude.{Some};
+ghost use Rattle.std.specs.Prelude.{Some, false};
 
 use event_loop::{
     Accepted, Ending, Held, Journal, LEAST_MEMORY, Limits, Report, Server, System, Time, Totals,
@@ -162,6 +162,8 @@ impl<'w> System for Pipes<'w> {
     type Stream = End<'w>;
 
     ghost tried = { λ pipes. Some pipes.has_tried };
+
+    ghost failed = { λ _. Some false };
 
     fn wait(&mut self, _most: Duration) -> Result<Woken, ErrorKind> {
         self.reports.clear();

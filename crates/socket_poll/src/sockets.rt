@@ -114,6 +114,8 @@ impl System for Sockets {
 
     ghost tried = { λ _. None };
 
+    ghost failed = { λ _. None };
+
     fn wait(&mut self, most: Duration) -> Result<Woken, ErrorKind> {
         if let Err(error) = self.poll.poll(&mut self.events, Some(most)) {
             return Err(error.kind());

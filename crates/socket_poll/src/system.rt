@@ -1,5 +1,5 @@
 //! What a loop needs of the operating system: what is ready, who connects, and the time.
-ghost use Rattle.std.specs.Prelude.{◌≡◌, ⊤, Bool, Option, IfSome, IsFalse, IsTrue};
+ghost use Rattle.std.specs.Prelude.{◌≡◌, ⊤, Bool, Option, IfSome, IsFalse, IsTrue, OnErr};
 ghost use Rattle.socket_poll.specs.Streams.{IsNew};
 ghost use Rattle.socket_poll.specs.Reports.{ended_at};
 
@@ -78,9 +78,13 @@ pub trait System {
     /// Whether it was asked for a connection since the last wait, if it shows that.
     ghost tried: { Self → Option Bool };
 
+    /// Whether the last wait failed, if it shows that.
+    ghost failed: { Self → Option Bool };
+
     /// Waits until something is ready, for at most this time. An error is the system's reason.
     fn wait(&mut self, most: Duration) -> Result<Woken, ErrorKind>
-        ensures { IfSome (tried self.new) IsFalse };
+        ensures tried { IfSome (tried self.new) IsFalse }
+        ensures failed { OnErr result (IfSome (failed self.new) IsTrue) };
 
     /// The report of the last wait with this number, from 0.
     fn report(&self, number: usize) -> Option<Report>;

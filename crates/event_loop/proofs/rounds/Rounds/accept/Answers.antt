@@ -1,4 +1,4 @@
-use Rattle.open_connections.proofs.Looping.{no_step}
+use Rattle.event_loop.proofs.Looping.{no_step}
 use Rattle.event_loop.proofs.rounds.Rounds.accept.Goals as goal
 
 pub returns-then-not-self-clause-lanes : goal.returns-then-not-self-clause-lanes

@@ -1,4 +1,4 @@
-use Rattle.open_connections.proofs.Looping.{no_step, stays}
+use Rattle.event_loop.proofs.Looping.{no_step, stays}
 use Rattle.event_loop.proofs.rounds.Rounds.accept_one.Goals as goal
 
 pub returns-in-Blocked-clause-lanes : goal.returns-in-Blocked-clause-lanes

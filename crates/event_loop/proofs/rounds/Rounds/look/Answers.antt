@@ -1,5 +1,5 @@
-use Rattle.open_connections.proofs.Looping.{no_step_on, on_then}
+use Rattle.event_loop.proofs.Looping.{no_step_on, on_then}
 use Rattle.event_loop.proofs.rounds.Rounds.look.Goals as goal
 
 pub returns-clause-lanes : goal.returns-clause-lanes
-returns-clause-lanes g c = on_then g.C.LoopCore.steps _ _ _ c.tick.ensures.lanes (no_step_on g.C.LoopCore.steps _ _ c.tell_journal.ensures.lanes)
+returns-clause-lanes g c = on_then c.steps_join.ensures _ _ _ c.tick.ensures.lanes (no_step_on g.C.LoopCore.steps _ _ c.tell_journal.ensures.lanes)

@@ -1,4 +1,4 @@
-use Rattle.open_connections.proofs.Looping.{taken_some}
+use Rattle.event_loop.proofs.Looping.{taken_some}
 use Rattle.event_loop.proofs.rounds.Rounds.open.Goals as goal
 
 pub returns-clause-lanes : goal.returns-clause-lanes

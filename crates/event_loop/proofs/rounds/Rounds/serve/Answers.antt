@@ -1,12 +1,9 @@
 use Rattle.std.proofs.Common.{rules, ◌≡◌, true, sym, ◌∙◌}
-use Rattle.open_connections.proofs.Woken.{turn_comes}
 use Rattle.event_loop.proofs.Serving.{serves_one}
 use Rattle.event_loop.proofs.rounds.Rounds.serve.Goals as goal
 
 pub returns-clause-woken : goal.returns-clause-woken
-returns-clause-woken g c = λ fact h.
-    let o = c.args.self.now.opened in
-    c.take_turn.ensures.woken fact (turn_comes o.bound o.has_missed o.due.first.items o.due.rest.items o.connections c.args.due fact h)
+returns-clause-woken g c = c.turns_pass.ensures.had c.args.due c.args.self.now.opened c.take_turn.new.self.opened c.take_turn.ensures.woken
 
 pub returns-clause-serves : goal.returns-clause-serves
 returns-clause-serves g c =

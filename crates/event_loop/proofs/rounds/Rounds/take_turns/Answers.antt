@@ -1,7 +1,8 @@
 use Rattle.std.proofs.Common.{◌∙◌, List, [], subst, sym}
+use Rattle.std.proofs.lemmas.Result.{err_from_is_err_and}
 use Rattle.due_list.specs.declared.due.Due.{Due}
 use Rattle.open_connections.specs.Woken.{IsWoken, Stands}
-use Rattle.open_connections.proofs.Looping.{no_step_on, on_then, stays}
+use Rattle.event_loop.proofs.Looping.{no_step_on, on_then, stays}
 use Rattle.event_loop.proofs.Serving.{leads_on, leads_through}
 use Rattle.event_loop.proofs.Waking.{none_left, woken_on, woken_out, woken_still}
 use Rattle.event_loop.proofs.rounds.Rounds.take_turns.Goals as goal
@@ -11,7 +12,7 @@ turns-init g c = record { lanes = no_step_on g.C.LoopCore.steps _ _ (stays _); l
 
 pub turns-preserved : goal.turns-preserved
 turns-preserved g c = record {
-  lanes = on_then g.C.LoopCore.steps _ _ _ c.turns.invariant.lanes c.serve.ensures.lanes;
+  lanes = on_then c.steps_join.ensures _ _ _ c.turns.invariant.lanes c.serve.ensures.lanes;
   leads = leads_on g.C.LoopCore.steps g.S.Stream.Wire.told g.C.LoopCore.may_wait g.C.LoopCore.longs _ _ _ _ _ _ c.turns-test.true c.turns.invariant.leads c.in_ok-serve.ensures.serves (λ key number h. c.in_ok-serve.ensures.woken (Stands key number []) h);
   woken = λ h. woken_on _ c.turns.due-index _ c.turns.self.opened c.serve.new.self.opened c.turns-test.true (c.turns.invariant.woken h) c.in_ok-serve.ensures.woken;
 }
@@ -19,11 +20,14 @@ turns-preserved g c = record {
 pub returns-in_err-list-clause-lanes : goal.returns-in_err-list-clause-lanes
 returns-in_err-list-clause-lanes g c = no_step_on g.C.LoopCore.steps _ _ c.in_err-list.ensures.lanes
 
+pub returns-in_err-list-clause-refused : goal.returns-in_err-list-clause-refused
+returns-in_err-list-clause-refused g c = let p = err_from_is_err_and c.from_residual.result c.from_residual.ensures.1 in rw p.1 p.2
+
 pub returns-in_err-serve-clause-lanes : goal.returns-in_err-serve-clause-lanes
-returns-in_err-serve-clause-lanes g c = on_then g.C.LoopCore.steps _ _ _ (no_step_on g.C.LoopCore.steps _ _ c.in_ok-list.ensures.lanes) (on_then g.C.LoopCore.steps _ _ _ c.turns.invariant.lanes c.serve.ensures.lanes)
+returns-in_err-serve-clause-lanes g c = on_then c.steps_join.ensures _ _ _ (no_step_on g.C.LoopCore.steps _ _ c.in_ok-list.ensures.lanes) (on_then c.steps_join.ensures _ _ _ c.turns.invariant.lanes c.serve.ensures.lanes)
 
 pub returns-clause-lanes : goal.returns-clause-lanes
-returns-clause-lanes g c = on_then g.C.LoopCore.steps _ _ _ (no_step_on g.C.LoopCore.steps _ _ c.in_ok-list.ensures.lanes) (on_then g.C.LoopCore.steps _ _ _ c.turns.invariant.lanes (no_step_on g.C.LoopCore.steps _ _ c.give_back.ensures.lanes))
+returns-clause-lanes g c = on_then c.steps_join.ensures _ _ _ (no_step_on g.C.LoopCore.steps _ _ c.in_ok-list.ensures.lanes) (on_then c.steps_join.ensures _ _ _ c.turns.invariant.lanes (no_step_on g.C.LoopCore.steps _ _ c.give_back.ensures.lanes))
 
 pub returns-clause-each : goal.returns-clause-each
 returns-clause-each g c = record {

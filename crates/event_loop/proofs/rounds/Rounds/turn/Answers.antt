@@ -4,8 +4,7 @@ use Rattle.outbox.specs.Traffic.{Traffic}
 use Rattle.open_connections.specs.declared.open.Open.{Open}
 use Rattle.open_connections.specs.Looping.{Stays}
 use Rattle.open_connections.specs.Opened.{bytes_of, lanes_of}
-use Rattle.open_connections.proofs.Keeping.{others_stand, others_then}
-use Rattle.open_connections.proofs.Looping.{turn_then}
+use Rattle.event_loop.proofs.Looping.{turn_then}
 use Rattle.event_loop.proofs.Serving.{if_small}
 use Rattle.event_loop.specs.Clocked.{IsNoted, NotesMoved}
 use Rattle.event_loop.proofs.rounds.Rounds.turn.Goals as goal
@@ -16,7 +15,7 @@ noted {S} {C} {T} told true key a b c counted second h k n = inr (n refl)
 noted {S} {C} {T} told false key a b c counted second h k n = inl (k.bytes_stay ∙ h refl)
 
 pub returns-clause-lanes : goal.returns-clause-lanes
-returns-clause-lanes g c = turn_then g.C.LoopCore.steps c.args.key _ _ _ c.turn-outcome.ensures.lanes c.mark_moved.ensures.lanes
+returns-clause-lanes g c = turn_then c.steps_join.ensures c.args.key _ _ _ c.turn-outcome.ensures.lanes c.mark_moved.ensures.lanes
 
 pub returns-clause-clock : goal.returns-clause-clock
 returns-clause-clock g c = noted _ c.turn-outcome.result.1 c.args.key c.args.self.now.opened c.turn-outcome.new.self c.mark_moved.new.self.opened _ _ c.turn-outcome.ensures.bytes c.mark_moved.ensures.lanes c.mark_moved.ensures.clock
@@ -33,4 +32,4 @@ returns-clause-gets g c = λ k. (
 )
 
 pub returns-clause-others : goal.returns-clause-others
-returns-clause-others g c = others_then c.args.key _ _ _ c.turn-outcome.ensures.others (others_stand c.args.key _ _ c.mark_moved.ensures.ready)
+returns-clause-others g c = c.states_join.ensures.apart c.args.key _ _ _ c.turn-outcome.ensures.others (c.states_join.ensures.others c.args.key _ _ c.mark_moved.ensures.ready)

@@ -1,6 +1,5 @@
 use Rattle.std.proofs.Common.{◌∙◌}
-use Rattle.open_connections.proofs.Steps.{listed_at, to_lists}
-use Rattle.open_connections.specs.Opened.{bytes_of}
+use Rattle.event_loop.proofs.Listed.{listed_at, to_lists}
 use Rattle.event_loop.proofs.Seats.{shown}
 use Rattle.event_loop.proofs.server.Server.over.Goals as goal
 
@@ -12,5 +11,4 @@ returns-clause-woken g c = shown c.in_ok-rounds.rounds.opened c.in_ok-rounds.ens
 
 pub returns-clause-joined : goal.returns-clause-joined
 returns-clause-joined g c =
-    let o = c.in_ok-rounds.rounds.opened in
-    (to_lists g.S.Stream.Wire.told o.budgets (bytes_of o) o.core o.connections).joined c.in_ok-rounds.ensures.joined
+    (to_lists g.S.Stream.Wire.told c.in_ok-rounds.rounds.opened).joined c.in_ok-rounds.ensures.joined

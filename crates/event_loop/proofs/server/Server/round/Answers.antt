@@ -1,7 +1,6 @@
 use Rattle.std.proofs.Common.{refl, sym, ◌∙◌}
-use Rattle.open_connections.specs.Opened.{bytes_of}
-use Rattle.open_connections.proofs.Looping.{no_step, serves_no_new, some_then}
-use Rattle.open_connections.proofs.Steps.{from_lists, listed_at, to_lists}
+use Rattle.event_loop.proofs.Looping.{no_step, serves_no_new, some_then}
+use Rattle.event_loop.proofs.Listed.{from_lists, listed_at, to_lists}
 use Rattle.event_loop.proofs.Seats.{known, ok_still, shown}
 use Rattle.event_loop.proofs.server.Server.round.Goals as goal
 
@@ -9,8 +8,8 @@ pub returns-clause-steps : goal.returns-clause-steps
 returns-clause-steps g c =
     let was = c.self.inside.rounds.opened in
     let is = c.step.new.self.opened in
-    rw (← c.self.view_is) (some_then g.C.LoopCore.steps _ _ _ (no_step g.C.LoopCore.steps _ _ (from_lists _ was.budgets (bytes_of was) was.core was.connections))
-    (some_then g.C.LoopCore.steps _ _ _ c.step.ensures.lanes (no_step g.C.LoopCore.steps _ _ (to_lists _ is.budgets (bytes_of is) is.core is.connections))))
+    rw (← c.self.view_is) (some_then c.steps_join.ensures _ _ _ (no_step g.C.LoopCore.steps _ _ (from_lists _ was))
+    (some_then c.steps_join.ensures _ _ _ c.step.ensures.lanes (no_step g.C.LoopCore.steps _ _ (to_lists _ is))))
 
 pub returns-clause-deaf : goal.returns-clause-deaf
 returns-clause-deaf g c =

@@ -1,12 +1,13 @@
 use Rattle.std.specs.Prelude.{IsFalse}
 use Rattle.open_connections.specs.Looping.{DoesSome}
-use Rattle.event_loop.specs.Servers.{GoesSomeRounds, StaysDeaf, lanes_in}
+use Rattle.event_loop.specs.Servers.{StaysDeaf, lanes_in}
+use Rattle.event_loop.proofs.Going.{GoesSoMany}
 use Rattle.event_loop.proofs.server.Server.run.Given as goal
 
 -- what was done so far
 abbrev pub invariant-rounds : goal.invariant-rounds
 invariant-rounds g l = record {
   steps : DoesSome g.C.LoopCore.steps (lanes_in l.initial.self) (lanes_in l.self);
-  rounds : GoesSomeRounds g.row.S-Stream.Denot g.row.T.Denot g.C.LoopCore.steps g.S.Stream.Wire.told g.C.LoopCore.may_wait g.C.LoopCore.longs l.initial.self l.self;
+  rounds : GoesSoMany g.row.S-Stream.Denot g.row.T.Denot g.C.LoopCore.steps g.S.Stream.Wire.told g.C.LoopCore.may_wait g.C.LoopCore.longs l._gone l.initial.self l.self;
   deaf : IsFalse l.initial.self.listens → StaysDeaf l.initial.self l.self;
 }

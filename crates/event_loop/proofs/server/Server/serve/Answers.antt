@@ -1,4 +1,4 @@
-use Rattle.open_connections.proofs.Looping.{joined_kept, limits_kept}
+use Rattle.event_loop.proofs.Looping.{joined_kept, limits_kept}
 use Rattle.event_loop.proofs.server.Server.serve.Goals as goal
 
 pub returns-clause-limits : goal.returns-clause-limits
