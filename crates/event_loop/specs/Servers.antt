@@ -81,7 +81,7 @@ abbrev pub ComesOfWaiting : LoopFault → (failed : Option Bool) → Type 0
 ComesOfWaiting (Net reason) failed = IfSome failed IsTrue
 ComesOfWaiting Memory failed = Unit {0}
 
--- A run that fails is some rounds and one that fails, or as many rounds as there may be.
+-- Why a run fails: as a round does, or since it went as many rounds as there may be. What the last round did is not said here.
 pub record FailsBehind (S T : Type 0) {C : Type 0} (s : CoreSteps C) (told : S → Option Traffic) (may_wait longs : ℕ → C → Bool) (fault : LoopFault) (old new : Serving C) : Type 0 where
   pub rounds : List (Serving C)
   pub last : Serving C
