@@ -1,11 +1,11 @@
 -- A turn that goes on, by each of its plans.
 use Rattle.std.proofs.Common.{◌≡◌, ℕ, List, [], ◌∷◌, ◌++◌, Bool, true, false, Option, Some, None, take, refl, sym, ap, ◌∙◌, subst, inl, inr}
-use Rattle.std.specs.Prelude.{◌&&◌, ◌||◌, nat_lt, if◌then◌else◌}
+use Rattle.std.specs.Prelude.{◌||◌, nat_lt, if◌then◌else◌}
 use Rattle.std.proofs.lemmas.Bool.{and_from, and_parts, cases_Bool, false≢true, lt-ltb, or_right, MatchBool-at_true, MatchBool-at_false}
 use Rattle.std.proofs.lemmas.List.{append-nil}
-use Rattle.outbox.specs.Lines.{Line, Event, Fails, Writable, after, is_open, owes, read_at, reads, sent_at}
+use Rattle.outbox.specs.Lines.{Line, Event, Fails, Writable, after, is_open, owes, read_at, sent_at}
 use Rattle.outbox.specs.Traffic.{Traffic, moved, with_written}
-use Rattle.outbox.specs.Turns.{DoesAt, Flushes, HasFallen, HasNotRisen, Moment, Turned, WritesOnce, can_answer, can_go_on, can_write, here, moves_at}
+use Rattle.outbox.specs.Turns.{DoesAt, Flushes, HasFallen, HasNotRisen, Moment, Turned, WritesOnce, can_answer, can_reply, can_write, here, moves_at}
 use Rattle.outbox.specs.declared.readiness.Readiness.{Readiness}
 use Rattle.connection_turns.specs.Turning.{Progresses, dried, moment_of}
 use Rattle.connection_turns.specs.declared.connection.Connection.{Connection}
@@ -58,17 +58,10 @@ only_written takes answers line line' wire wire' ready ready' core h = elim (cas
       none takes answers line line' wire wire' ready ready' core same.0 same.1 (λ can. absurd (false≢true (sym cannot ∙ can))) (rw same.2 (record { readable = λ e. e; writable = λ e. e; waiting = λ e. e }))
 ]
 
--- a turn that answers may do more than that
-can_answer_so : (r w s b : Bool) → (w && s) ≡ true → ((r || w) && s || b) ≡ true
-can_answer_so true true true b h = refl
-can_answer_so false true true b h = refl
-can_answer_so r true false b h = absurd cc
-can_answer_so r false s b h = absurd cc
-
+-- a turn that answers may write, too
 pub answered : {C : Type 0} (takes answers : C → List ℕ → C → Type 0) (old new : Moment C)
-    → Progresses takes answers (can_go_on old.ready old.line) old new → Progresses takes answers (can_answer old.ready old.line) old new
-answered takes answers old new p =
-    record { turn = p.turn; goes_on = λ h. p.goes_on (can_answer_so old.ready.readable old.ready.waiting (reads old.line) (can_write old.ready old.line) h); rises = p.rises }
+    → Progresses takes answers (can_reply old.ready old.line) old new → Progresses takes answers (can_answer old.ready old.line) old new
+answered takes answers old new p = record { turn = p.turn; goes_on = λ h. p.goes_on (ap (λ (b : Bool). b || can_write old.ready old.line) h); rises = p.rises }
 
 -- a read that is known to want a wait is one more thing that does
 fallen_more : (old new : Readiness) → HasFallen old new → HasFallen old (record { readable = false; writable = new.writable; waiting = new.waiting })

@@ -1,11 +1,13 @@
 -- What a turn of the loop does to a connection, whatever the others do: this project's own.
-use Rattle.std.specs.Prelude.{◌≡◌, ◌⊎◌, ℕ, ◌<◌, List, length, Option, Bool, true, false}
-use Rattle.outbox.specs.Lines.{Line, Event, run, read, sent}
+use Rattle.std.specs.Prelude.{◌≡◌, ◌⊎◌, ℕ, ◌+◌, ◌<◌, ◌≤◌, List, length, Option, Bool, true, false}
+use Rattle.outbox.specs.Lines.{Line, Event, cap, run, read, sent}
 use Rattle.outbox.specs.Traffic.{Traffic, moved, with_read}
 use Rattle.outbox.specs.Turns.{DoesAll, HasFallen, HasNotRisen, Moment, here, moves}
 use Rattle.outbox.specs.declared.readiness.Readiness.{Readiness}
 use Rattle.connection_turns.specs.Owed.{wire_of}
 use Rattle.connection_turns.specs.declared.connection.Connection.{Connection}
+use Rattle.connection_turns.specs.declared.connection.TurnPlan.{TurnPlan}
+use Rattle.connection_turns.specs.declared.connection.TurnPlan.TheVariants.{Write, Read, Answer, All}
 use Rattle.connection_turns.specs.declared.connection.Outcome.{Outcome}
 use Rattle.connection_turns.specs.declared.connection.Outcome.TheVariants as outcome
 
@@ -30,6 +32,13 @@ pub record Progresses {C : Type 0} (takes answers : C → List ℕ → C → Typ
   pub turn : TakesTurn takes answers old.line old.wire old.core new.line new.wire new.core
   pub goes_on : can ≡ true → (moves old.line turn.events ≡ true) ⊎ HasFallen old.ready new.ready
   pub rises : moves old.line turn.events ≡ false → HasNotRisen old.ready new.ready
+
+-- What a turn adds to the bytes that are owed: nothing, or at most one reply. If it may give several, they end within one reply above the cap.
+abbrev pub Adds : {C : Type 0} → TurnPlan → (C → List ℕ → C → Type 0) → C → (owed owed' : ℕ) → Type 0
+Adds Write answers core owed owed' = owed' ≤ owed
+Adds Read answers core owed owed' = owed' ≤ owed
+Adds {C} Answer answers core owed owed' = (owed' ≤ owed) ⊎ ((reply : List ℕ) × (new : C) × answers core reply new × (owed' ≤ owed + length reply))
+Adds {C} All answers core owed owed' = (owed' ≤ owed) ⊎ ((old : C) × (reply : List ℕ) × (new : C) × answers old reply new × (owed' ≤ cap + length reply))
 
 -- bytes came and are thrown away, or a read would wait, or the connection is to be closed
 abbrev pub DrainsOn : (old new : Option Traffic) → Readiness → Outcome → Type 0

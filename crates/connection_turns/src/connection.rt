@@ -9,7 +9,7 @@ ghost use Rattle.connection_turns.specs.Held.{renewed};
 ghost use Rattle.connection_turns.specs.Owed.{line_of, wire_of, is_lost, has_left, rests};
 ghost use Rattle.connection_turns.specs.Planning as planning;
 ghost use Rattle.connection_turns.specs.Planning.{raised, ends, end_of, outcome_of, plan_of, next_of, plan_in, can_go_by, KeepsTurn};
-ghost use Rattle.connection_turns.specs.Turning.{DrainsOn, Progresses, dried, moment_of};
+ghost use Rattle.connection_turns.specs.Turning.{Adds, DrainsOn, Progresses, dried, moment_of};
 
 use crate::claim::{Claim, Pool, Purpose};
 use crate::counted::{Counted, TurnBounds};
@@ -17,7 +17,7 @@ use crate::ending::{End, Ending};
 use crate::limits::Limits;
 use crate::loop_core::LoopCore;
 use crate::socket::{Fate, Socket};
-use outbox::{Given, Outbox, Readiness, Wire, feed, flush, turn};
+use outbox::{Given, Outbox, Readiness, Wire, feed, flush, reply, turn};
 use socket_poll::{Peer, Report, Time};
 use std::alloc::Global;
 use std::net::SocketAddr;
@@ -241,12 +241,13 @@ impl<S: Peer> Connection<S> {
         requires within { most ≤ length buffer.old }
         ensures turn { Progresses (C.steps.takes conn) (C.steps.answers conn) (can_go_by plan self.old.ready self.old.outbox) (moment_of S.told core.old self.old) (moment_of S.told core.new self.new) }
         ensures moved { HasMoved (wire_of S.told self.old) (wire_of S.told self.new) result.0 result.1 }
+        ensures owed { Adds plan (C.steps.answers conn) core.old (length self.old.outbox.owed) (length self.new.outbox.owed) }
         ensures writes { plan ≡ TurnPlan.Write → core.new ≡ core.old }
         ensures phase { self.new.phase ≡ self.old.phase }
         ensures due { KeepsTurn self.old self.new }
         ensures claim { self.new.claim ≡ self.old.claim }
     {
-        core.begin(plan == TurnPlan::Answer, share);
+        core.begin(share);
         let counts = self.go(core, conn, &mut buffer[..most], plan);
         let done = core.done();
         self.has_faulted = self.has_faulted || done.has_faulted();
@@ -266,6 +267,7 @@ impl<S: Peer> Connection<S> {
         requires { 0 < length buffer.old }
         ensures turn { Progresses (C.steps.takes conn) (C.steps.answers conn) (can_go_by plan self.old.ready self.old.outbox) (moment_of S.told core.old self.old) (moment_of S.told core.new self.new) }
         ensures moved { HasMoved (wire_of S.told self.old) (wire_of S.told self.new) result.0 result.1 }
+        ensures owed { Adds plan (C.steps.answers conn) core.old (length self.old.outbox.owed) (length self.new.outbox.owed) }
         ensures writes { plan ≡ TurnPlan.Write → core.new ≡ core.old }
         ensures phase { self.new.phase ≡ self.old.phase }
         ensures due { KeepsTurn self.old self.new }
@@ -274,7 +276,7 @@ impl<S: Peer> Connection<S> {
         match plan {
             TurnPlan::Read => (self.read(core, conn, buffer), 0),
             TurnPlan::Write => (0, self.write()),
-            TurnPlan::Answer => self.serve(core, conn, buffer),
+            TurnPlan::Answer => (0, self.answer(core, conn)),
             TurnPlan::All => self.serve(core, conn, buffer),
         }
     }
@@ -282,6 +284,7 @@ impl<S: Peer> Connection<S> {
     // Once a read gave less than it had room for, a further one would only say that it would wait.
     fn note_drained(&mut self)
         ensures drained { self.new ≡ (if self.old.socket.is_drained then dried self.old else self.old) }
+        ensures outbox { self.new.outbox ≡ self.old.outbox }
         ensures phase { self.new.phase ≡ self.old.phase }
         ensures due { KeepsTurn self.old self.new }
         ensures claim { self.new.claim ≡ self.old.claim }
@@ -301,6 +304,7 @@ impl<S: Peer> Connection<S> {
         requires { 0 < length buffer.old }
         ensures turn { Progresses (C.steps.takes conn) (C.steps.answers conn) (turns.can_go_on self.old.ready self.old.outbox) (moment_of S.told core.old self.old) (moment_of S.told core.new self.new) }
         ensures moved { HasMoved (wire_of S.told self.old) (wire_of S.told self.new) result.0 result.1 }
+        ensures owed { Adds TurnPlan.All (C.steps.answers conn) core.old (length self.old.outbox.owed) (length self.new.outbox.owed) }
         ensures phase { self.new.phase ≡ self.old.phase }
         ensures due { KeepsTurn self.old self.new }
         ensures claim { self.new.claim ≡ self.old.claim }
@@ -317,6 +321,24 @@ impl<S: Peer> Connection<S> {
         counts
     }
 
+    // Answers one request, and writes. It does not read, so that the reply is the one whose length was told.
+    fn answer<C: LoopCore, T: Time + Drop>(&mut self, core: &mut Counted<C, T>, conn: u32) -> usize
+        ensures turn { Progresses (C.steps.takes conn) (C.steps.answers conn) (turns.can_answer self.old.ready self.old.outbox) (moment_of S.told core.old self.old) (moment_of S.told core.new self.new) }
+        ensures moved { HasMoved (wire_of S.told self.old) (wire_of S.told self.new) 0 result }
+        ensures owed { Adds TurnPlan.Answer (C.steps.answers conn) core.old (length self.old.outbox.owed) (length self.new.outbox.owed) }
+        ensures phase { self.new.phase ≡ self.old.phase }
+        ensures due { KeepsTurn self.old self.new }
+        ensures claim { self.new.claim ≡ self.old.claim }
+    {
+        reply(
+            &mut self.outbox,
+            &mut self.socket,
+            core,
+            conn,
+            &mut self.ready,
+        )
+    }
+
     // Reads a piece.
     fn read<C: LoopCore, T: Time + Drop>(
         &mut self,
@@ -327,6 +349,7 @@ impl<S: Peer> Connection<S> {
         requires { 0 < length buffer.old }
         ensures turn { Progresses (C.steps.takes conn) (C.steps.answers conn) (turns.can_read self.old.ready self.old.outbox) (moment_of S.told core.old self.old) (moment_of S.told core.new self.new) }
         ensures moved { HasMoved (wire_of S.told self.old) (wire_of S.told self.new) result 0 }
+        ensures owed { length self.new.outbox.owed ≤ length self.old.outbox.owed }
         ensures phase { self.new.phase ≡ self.old.phase }
         ensures due { KeepsTurn self.old self.new }
         ensures claim { self.new.claim ≡ self.old.claim }
@@ -347,6 +370,7 @@ impl<S: Peer> Connection<S> {
     fn write(&mut self) -> usize
         ensures turn { Flushes self.old.outbox (wire_of S.told self.old) self.old.ready self.new.outbox (wire_of S.told self.new) self.new.ready }
         ensures moved { HasMoved (wire_of S.told self.old) (wire_of S.told self.new) 0 result }
+        ensures owed { length self.new.outbox.owed ≤ length self.old.outbox.owed }
         ensures phase { self.new.phase ≡ self.old.phase }
         ensures due { KeepsTurn self.old self.new }
         ensures claim { self.new.claim ≡ self.old.claim }

@@ -44,8 +44,6 @@ pub struct Counted<C: LoopCore, T: Time + Drop> {
     time: T,
     // When this turn began, where the clock tells it.
     began: Option<Duration>,
-    // This turn answers one request at most.
-    is_single: bool,
     share: TurnBounds,
     done: Done,
     // The slow query that was not told yet.
@@ -67,7 +65,6 @@ impl<C: LoopCore, T: Time + Drop> Counted<C, T> {
             core,
             time,
             began: None,
-            is_single: false,
             share: TurnBounds {
                 work: Work {
                     units: 0,
@@ -117,12 +114,11 @@ impl<C: LoopCore, T: Time + Drop> Counted<C, T> {
         self.done = nothing();
     }
 
-    /// A turn begins, which answers one request or as many as there is time for.
-    pub(crate) fn begin(&mut self, is_single: bool, share: TurnBounds)
+    /// A turn begins.
+    pub(crate) fn begin(&mut self, share: TurnBounds)
         ensures { self.new ≡ self.old }
     {
         self.began = self.time.now();
-        self.is_single = is_single;
         self.share = share;
         self.share.work.since = self.began;
         self.done = nothing();
@@ -158,8 +154,7 @@ impl<C: LoopCore, T: Time + Drop> Counted<C, T> {
 
     // Whether this turn did what it may do, however long it took. Where the request in front waits, or is not answered in a brief turn, nothing is left to do.
     fn is_over(&self) -> bool {
-        self.is_single && self.done.answered > 0
-            || self.done.has_worked && (self.share.is_shared || !self.done.has_gone_on())
+        self.done.has_worked && (self.share.is_shared || !self.done.has_gone_on())
     }
 
     // Notes a step.

@@ -2,7 +2,7 @@
 ghost use Rattle.std.specs.Prelude.{◌≡◌, ◌&&◌, ◌||◌, ℕ, Bool, IsTrue, List, Option};
 ghost use Rattle.std.specs.Bool.{MatchBool};
 ghost use Rattle.admin_pages.specs.declared.counted.Metrics.{Metrics};
-ghost use Rattle.connection_turns.specs.Cores.{CoreSteps};
+ghost use Rattle.connection_turns.specs.Cores.{CoreSteps, IsMost};
 ghost use Rattle.connection_turns.specs.declared.ahead.Ahead.{Ahead};
 ghost use Rattle.outbox.specs.Appends.{Appends};
 ghost use Rattle.tenant_map.specs.declared.usage.Usage.{Usage};
@@ -64,6 +64,7 @@ pub trait LoopCore: Drop {
     /// What is in front on a connection.
     fn front(&self, conn: u32) -> Ahead
         ensures ahead { aheads conn self.now result }
+        ensures most { IsMost (steps.answers conn) self.now result.most_reply }
         ensures tenant { result.tenant ≡ fronts conn self.now }
         ensures waits { IsTrue result.waits → IsTrue (may_wait conn self.now) }
         ensures long { result.is_long ≡ longs conn self.now };

@@ -1,28 +1,31 @@
 -- What stays so of each connection.
-use Rattle.std.proofs.Common.{◌≡◌, ◌≤◌, arith, min, ℕ, Bool, true, false, Option, Some, None, Result, Ok, Err, sym, ap, ◌∙◌, refl, subst}
+use Rattle.std.proofs.Common.{◌≡◌, ◌≤◌, arith, length, min, ℕ, List, Bool, true, false, Option, Some, None, Result, Ok, Err, sym, ap, ◌∙◌, refl, subst}
 use Rattle.std.specs.Prelude.{◌==◌, ◌&&◌, nat_le, IfOk, IfSome, IsTrue, is_some, if◌then◌else◌}
 use Rattle.std.specs.Option.{option_and_then, option_map}
 use Rattle.slab.specs.Slab.{Slab, get, with_value, Updates}
 use Rattle.std.proofs.lemmas.Bool.Decides.{nat_tests}
 use Rattle.memory_budget.specs.declared.share.Grant.TheVariants.{Granted, Waits}
 use Rattle.memory_budget.specs.States.{State, at_once}
+use Rattle.wire_frames.specs.declared.parts.TheConstants.{MOST_REPLY}
+use Rattle.outbox.specs.Traffic.{Traffic}
+use Rattle.connection_turns.specs.Cores.{CoreSteps, IsMost}
 use Rattle.connection_turns.specs.Held.{covers_in}
 use Rattle.connection_turns.specs.Planning.{granted}
 use Rattle.connection_turns.specs.declared.claim.Need.{Need}
 use Rattle.connection_turns.specs.declared.claim.Pool.{Pool}
-use Rattle.connection_turns.specs.declared.claim.Pool.TheVariants.{Tenants}
 use Rattle.connection_turns.specs.declared.claim.Purpose.{Purpose}
 use Rattle.connection_turns.specs.declared.claim.Purpose.TheVariants as purpose
 use Rattle.open_connections.specs.Joined.{claim_asked, claim_by, most_in, within}
-use Rattle.open_connections.specs.Shares.{in_pool, is_covered}
+use Rattle.open_connections.specs.Shares.{claim_at, in_pool, is_covered}
 use Rattle.open_connections.specs.declared.budgets.Budgets.{Budgets}
 use Rattle.connection_turns.specs.declared.claim.Claim.{Claim}
 use Rattle.connection_turns.specs.declared.connection.Connection.{Connection}
 use Rattle.outbox.specs.declared.readiness.Readiness.{Readiness}
 use Rattle.connection_turns.specs.declared.connection.Phase.{Phase}
 use Rattle.open_connections.specs.declared.open.Open.{Open}
-use Rattle.open_connections.specs.Opened.{is_open_at}
-use Rattle.open_connections.specs.Turns.{Keep, OthersStand, StatesStay, asked_by, is_held_in, is_queued_in, number_at, standing_of}
+use Rattle.open_connections.specs.Looping.{Stays}
+use Rattle.open_connections.specs.Opened.{is_open_at, lanes_of}
+use Rattle.open_connections.specs.Turns.{AreCovered, IsForReply, Keep, OthersStand, StatesStay, asked_by, is_held_in, is_queued_in, number_at, standing_of}
 use Rattle.open_connections.proofs.Steps.{everywhere, written}
 
 pub keep_same : {S A : Type 0} (of : Connection S → A) (slab : Slab (Connection S)) → Keep of slab slab
@@ -85,37 +88,59 @@ held_covers (Some c) (Some d) reply e h k =
     let covers : covers_in c.purpose c.bytes reply ≡ true = ap (λ (z : Claim). covers_in z.purpose z.bytes reply) same ∙ k in
     ap (λ (b : Bool). b && covers_in c.purpose c.bytes reply) h ∙ covers
 
-less_fits : (reply most bytes : ℕ) → nat_le reply bytes ≡ true → nat_le (min reply most) bytes ≡ true
-less_fits reply most bytes e = grind (arith, nat_tests)
+shorter_fits : (reply most bytes : ℕ) → reply ≤ most → nat_le most bytes ≡ true → nat_le reply bytes ≡ true
+shorter_fits reply most bytes l e = grind (arith, nat_tests)
 
-less_covers : (purpose : Purpose) (bytes reply most : ℕ) → covers_in purpose bytes reply ≡ true → covers_in purpose bytes (min reply most) ≡ true
-less_covers purpose.Frame bytes reply most e = refl
-less_covers purpose.Reply bytes reply most e = less_fits reply most bytes e
-less_covers purpose.Written bytes reply most e = e
+shorter_covers : (purpose : Purpose) (bytes reply most : ℕ) → reply ≤ most → covers_in purpose bytes most ≡ true → covers_in purpose bytes reply ≡ true
+shorter_covers purpose.Frame bytes reply most l e = refl
+shorter_covers purpose.Reply bytes reply most l e = shorter_fits reply most bytes l e
+shorter_covers purpose.Written bytes reply most l e = e
 
-pub covered_less : (claim : Option Claim) (reply most : ℕ) → is_covered claim reply ≡ true → is_covered claim (min reply most) ≡ true
-covered_less None reply most e = less_fits reply most 16384 e
-covered_less (Some claim) reply most e = both claim.is_granted (covers_in claim.purpose claim.bytes reply) (covers_in claim.purpose claim.bytes (min reply most)) (less_covers claim.purpose claim.bytes reply most) e
+-- what covers a reply covers a shorter one
+pub shorter_covered : (claim : Option Claim) (reply most : ℕ) → reply ≤ most → is_covered claim most ≡ true → is_covered claim reply ≡ true
+shorter_covered None reply most l e = shorter_fits reply most 16384 l e
+shorter_covered (Some claim) reply most l e = both claim.is_granted (covers_in claim.purpose claim.bytes most) (covers_in claim.purpose claim.bytes reply) (shorter_covers claim.purpose claim.bytes reply most l) e
   where
     both : (g x y : Bool) → (x ≡ true → y ≡ true) → (g && x) ≡ true → (g && y) ≡ true
     both true x y f e = f e
     both false x y f e = absurd cc
 
-asked_fits : (reply most limit : ℕ) → most ≤ limit → nat_le (min reply most) (min reply limit) ≡ true
-asked_fits reply most limit l = grind (arith, nat_tests)
+pub for_reply : (need asked : Need) → need ≡ asked → IsForReply asked → IsForReply need
+for_reply need asked e h = rw e h
+
+asked_fits : (reply limit : ℕ) → reply ≤ limit → nat_le reply (min reply limit) ≡ true
+asked_fits reply limit l = grind (arith, nat_tests)
 
 -- the claim of one that asks for a reply
-pub asked_covers : (need : Need) (now : ℕ) (budgets : Budgets) (most : ℕ) (claim : Claim) → most ≤ most_in budgets → need.pool ≡ Tenants → need.purpose ≡ purpose.Reply → claim ≡ claim_asked need now (in_pool need.pool budgets) → covers_in claim.purpose claim.bytes (min need.bytes most) ≡ true
-asked_covers need now budgets most claim l t r e =
+pub asked_covers : (need : Need) (now : ℕ) (budgets : Budgets) (claim : Claim) → MOST_REPLY ≤ most_in budgets → IsForReply need → claim ≡ claim_asked need now (in_pool need.pool budgets) → covers_in claim.purpose claim.bytes need.bytes ≡ true
+asked_covers need now budgets claim l (t, r, f) e =
     let s : State = budgets.tenants in
     let same : claim ≡ claim_asked need now s = e ∙ ap (λ (p : Pool). claim_asked need now (in_pool p budgets)) t in
-    ap (λ (z : Claim). covers_in z.purpose z.bytes (min need.bytes most)) same ∙ by_answer (at_once s need.party (within need s).bytes)
-    ∙ ap (λ (p : Purpose). covers_in p (within need s).bytes (min need.bytes most)) r ∙ asked_fits need.bytes most (most_in budgets) l
+    ap (λ (z : Claim). covers_in z.purpose z.bytes need.bytes) same ∙ by_answer (at_once s need.party (within need s).bytes)
+    ∙ ap (λ (p : Purpose). covers_in p (within need s).bytes need.bytes) r ∙ asked_fits need.bytes (most_in budgets) (omega (arith, f, l))
   where
-    by_answer : (b : Bool) → covers_in (claim_by (within need budgets.tenants) (if b then Granted budgets.tenants.next else Waits budgets.tenants.next) now).purpose (claim_by (within need budgets.tenants) (if b then Granted budgets.tenants.next else Waits budgets.tenants.next) now).bytes (min need.bytes most)
-        ≡ covers_in need.purpose (within need budgets.tenants).bytes (min need.bytes most)
+    by_answer : (b : Bool) → covers_in (claim_by (within need budgets.tenants) (if b then Granted budgets.tenants.next else Waits budgets.tenants.next) now).purpose (claim_by (within need budgets.tenants) (if b then Granted budgets.tenants.next else Waits budgets.tenants.next) now).bytes need.bytes
+        ≡ covers_in need.purpose (within need budgets.tenants).bytes need.bytes
     by_answer true = refl
     by_answer false = refl
+
+-- ---- Replies that are covered
+
+-- of a core that is another's inside, at a connection by its key
+pub most_at : {C : Type 0} (answers : ℕ → C → List ℕ → C → Type 0) (conn key : ℕ) (inner core : C) (most : ℕ) → conn ≡ key → inner ≡ core → IsMost (answers conn) inner most → IsMost (answers key) core most
+most_at answers conn key inner core most n e h = rw (sym n, sym e) h
+
+-- from where nothing changed, and where its share stays
+pub covered_from : {S C T : Type 0} (s : CoreSteps C) (told : S → Option Traffic) (key : ℕ) (a b c : Open S C T) → Stays (lanes_of told a) (lanes_of told b) → AreCovered s key b c → AreCovered s key a c
+covered_from {S} {C} s told key a b c h k = λ j reply core x. k (h.joined j) reply core (subst (λ (z : C). s.answers key z reply core) (sym h.core_stays) x)
+
+pub covered_then : {S C T : Type 0} (s : CoreSteps C) (key : ℕ) (a b c : Open S C T) → claim_at c.connections key ≡ claim_at b.connections key → AreCovered s key a b → AreCovered s key a c
+covered_then s key a b c e k = λ j reply core x. subst (λ (z : Option Claim). is_covered z (length reply) ≡ true) (sym e) (k j reply core x)
+
+pub claim_kept : {S : Type 0} (slab : Slab (Connection S)) (key : ℕ) (c c' : Connection S) → get slab key ≡ Some c → c'.claim ≡ c.claim → claim_at (with_value slab key c') key ≡ claim_at slab key
+claim_kept {S} slab key c c' h e =
+    let at : Option (Connection S) → Option Claim = option_and_then (λ c. c.claim) in
+    ap at (written slab key c c' h).changed ∙ e ∙ sym (ap at h)
 
 -- a share that is not held is waited for
 pub queued_so : {S : Type 0} (slot : Option (Connection S)) → option_map (λ c. is_some c.claim) slot ≡ Some true

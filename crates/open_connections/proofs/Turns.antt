@@ -1,6 +1,6 @@
 -- What a turn at one connection comes to.
 use Rattle.std.proofs.Common.{refl, ◌≡◌, ◌<◌, ◌^◌, ℕ, List, Bool, true, false, Option, Some, None, Result, Ok, Err, sym, ap, ◌∙◌, subst, inl, inr}
-use Rattle.std.specs.Prelude.{IfSome, IsFalse}
+use Rattle.std.specs.Prelude.{IfSome, IsFalse, length}
 use Rattle.std.specs.Option.{option_map, option_map_or}
 use Rattle.slab.specs.Slab.{Slab, get, Updates}
 use Rattle.outbox.specs.Lines.{Event, is_over, read, sent}
@@ -9,13 +9,14 @@ use Rattle.outbox.specs.Turns.{DoesAll}
 use Rattle.outbox.specs.declared.readiness.Readiness.{Readiness}
 use Rattle.connection_turns.specs.Owed.{is_lost, line_in, line_of, wire_of}
 use Rattle.connection_turns.specs.Planning.{can_go_by, ends, plan_of}
-use Rattle.connection_turns.specs.Turning.{DrainsOn, Progresses, moment_of}
+use Rattle.connection_turns.specs.Turning.{Adds, DrainsOn, Progresses, moment_of}
 use Rattle.connection_turns.specs.declared.claim.Claim.{Claim}
 use Rattle.connection_turns.specs.declared.connection.Connection.{Connection}
 use Rattle.connection_turns.specs.declared.connection.Outcome.{Outcome}
 use Rattle.connection_turns.specs.declared.connection.Phase.{Phase}
 use Rattle.connection_turns.specs.declared.connection.Phase.TheVariants.{Served, Lingering}
 use Rattle.connection_turns.specs.declared.connection.TurnPlan.{TurnPlan}
+use Rattle.connection_turns.specs.declared.connection.TurnPlan.TheVariants.{Answer}
 use Rattle.open_connections.specs.declared.budgets.Budgets.{Budgets}
 use Rattle.open_connections.specs.declared.open.Open.{Open}
 use Rattle.connection_turns.specs.Cores.{CoreSteps}
@@ -23,7 +24,7 @@ use Rattle.open_connections.specs.Looping.{CountsMoved, Does, Drained, HasTurn, 
 use Rattle.open_connections.specs.Opened.{bytes_of, lanes_of, wires_in}
 use Rattle.open_connections.specs.Joined.{Joined}
 use Rattle.open_connections.specs.Shares.{claim_at, limits_in}
-use Rattle.open_connections.specs.Turns.{DrainsAt, GetsTurn, GetsTurnIn, HasTurnBy, HasTurnIn, Prepares, StatesStay, TurnsBy, has_room, is_answering, plan_at, plan_in, standing_of}
+use Rattle.open_connections.specs.Turns.{AreCovered, DrainsAt, GetsTurn, GetsTurnIn, HasTurnBy, HasTurnIn, Prepares, StatesStay, TurnsBy, has_room, is_answering, plan_at, plan_in, standing_of}
 use Rattle.open_connections.proofs.Joined.{claim_is, part_of, same_joined}
 use Rattle.open_connections.proofs.Looping.{before_others, counts_from}
 use Rattle.open_connections.proofs.Steps.{does_all, lanes, line_at, others_stay, wire_at}
@@ -57,9 +58,9 @@ turn_lanes {S} {C} s told can budgets budgets' bytes bytes' core core' slab slab
 pub turned_by : {S C T : Type 0} (s : CoreSteps C) (told : S → Option Traffic) (plan : TurnPlan) (key conn : ℕ) (result : Outcome) (o o' : Open S C T) (c c' : Connection S) (takes answers : C → List ℕ → C → Type 0)
     → ((old : C) (piece : List ℕ) (new : C) → takes old piece new → s.takes conn old piece new) → ((old : C) (reply : List ℕ) (new : C) → answers old reply new → s.answers conn old reply new)
     → conn ≡ key → get o.connections key ≡ Some c → Updates o.connections o'.connections key (Some c') → o'.budgets ≡ o.budgets → c'.claim ≡ c.claim → c.phase ≡ Served → c'.phase ≡ c.phase
-    → Progresses takes answers (can_go_by plan c.ready c.outbox) (moment_of told o.core c) (moment_of told o'.core c') → CountsMoved (wire_of told c) (wire_of told c') (bytes_of o) (bytes_of o') → ends result ≡ is_over c'.outbox → TurnsBy s told plan key c.ready result o o'
+    → Progresses takes answers (can_go_by plan c.ready c.outbox) (moment_of told o.core c) (moment_of told o'.core c') → CountsMoved (wire_of told c) (wire_of told c') (bytes_of o) (bytes_of o') → ends result ≡ is_over c'.outbox → Adds plan (s.answers key) o.core (length c.outbox.owed) (length c'.outbox.owed) → TurnsBy s told plan key c.ready result o o'
 unfolding turn_lanes
-turned_by {S} s told plan key conn result o o' c c' takes answers t a n h u l q p k d w e =
+turned_by {S} s told plan key conn result o o' c c' takes answers t a n h u l q p k d w e f =
     record {
       turn = turn_lanes s told (can_go_by plan c.ready c.outbox) o.budgets o'.budgets (bytes_of o) (bytes_of o') o.core o'.core o.connections o'.connections key conn c c' takes answers t a n h u l q p k d w;
       ready' = c'.ready;
@@ -67,6 +68,7 @@ turned_by {S} s told plan key conn result o o' c c' takes answers t a n h u l q 
       goes_on = d.goes_on;
       rises = d.rises;
       over = e;
+      adds = f;
     }
 
 -- one that lingers is read, as a step has it
@@ -124,6 +126,7 @@ then_turned {S} {C} s told plan key ready result a b c h d =
       goes_on = d.goes_on;
       rises = d.rises;
       over = d.over;
+      adds = subst (λ (x : C). Adds plan (s.answers key) x (length d.turn.line.owed) (length d.turn.line'.owed)) h.core_stays d.adds;
     }
 
 then_drained : {S C T : Type 0} (s : CoreSteps C) (told : S → Option Traffic) (key : ℕ) (result : Outcome) (a b c : Open S C T)
@@ -144,14 +147,14 @@ then_drained s told key result a b c h d = record {
 
 -- what was prepared is done
 done_in : {S C T : Type 0} (phase : Phase) (s : CoreSteps C) (told : S → Option Traffic) (may_wait : ℕ → C → Bool) (plan next : TurnPlan) (key : ℕ) (ready : Readiness) (result : Outcome) (a b c : Open S C T)
-    → Stays (lanes_of told a) (lanes_of told b) → Prepares may_wait key (plan_in phase plan) (Ok next) a b → HasTurnIn phase s told next key ready result b c → GetsTurnIn phase s told may_wait (plan_in phase plan) key ready result a c
-done_in {S} {C} {T} Served s told may_wait plan next key ready result a b c h p d =
+    → Stays (lanes_of told a) (lanes_of told b) → Prepares may_wait key (plan_in phase plan) (Ok next) a b → (next ≡ Answer → AreCovered s key a c) → HasTurnIn phase s told next key ready result b c → GetsTurnIn phase s told may_wait (plan_in phase plan) key ready result a c
+done_in {S} {C} {T} Served s told may_wait plan next key ready result a b c h p v d =
     let t : TurnsBy s told next key ready result a c = then_turned s told next key ready result a b c h d in
     elim p [
-      | inl e ↦ inl (subst (λ (x : TurnPlan). TurnsBy s told x key ready result a c) e t)
+      | inl e ↦ inl (subst (λ (x : TurnPlan). TurnsBy s told x key ready result a c) e t, λ f. v (e ∙ f))
       | inr k ↦ inr (inl (k.1, subst (λ (x : TurnPlan). TurnsBy s told x key ready result a c) k.0 t))
     ]
-done_in Lingering s told may_wait plan next key ready result a b c h p d = then_drained s told key result a b c h d
+done_in Lingering s told may_wait plan next key ready result a b c h p v d = then_drained s told key result a b c h d
 
 left_in : {S C T : Type 0} (phase : Phase) (s : CoreSteps C) (told : S → Option Traffic) (may_wait : ℕ → C → Bool) (plan : TurnPlan) (key : ℕ) (ready : Readiness) (result : Outcome) (a c : Open S C T)
     → Stays (lanes_of told a) (lanes_of told c) → StatesStay a c → Prepares may_wait key (plan_in phase plan) (Err result) a c → GetsTurnIn phase s told may_wait (plan_in phase plan) key ready result a c
@@ -160,13 +163,13 @@ left_in Lingering s told may_wait plan key ready result a c h k p = elim p [ inl
 
 pub done_at : {S C T : Type 0} (s : CoreSteps C) (told : S → Option Traffic) (may_wait : ℕ → C → Bool) (next : TurnPlan) (key : ℕ) (result : Outcome) (a b c : Open S C T) (slot slot' : Option (Connection S))
     → Stays (lanes_of told a) (lanes_of told b) → option_map standing_of slot' ≡ option_map standing_of slot
-    → IfSome slot (λ x. key < 2 ^ 32 → Prepares may_wait key (plan_at x a) (Ok next) a b) → IfSome slot' (λ x. key < 2 ^ 32 → HasTurnBy s told next key x result b c)
+    → IfSome slot (λ x. key < 2 ^ 32 → Prepares may_wait key (plan_at x a) (Ok next) a b) → (next ≡ Answer → AreCovered s key a c) → IfSome slot' (λ x. key < 2 ^ 32 → HasTurnBy s told next key x result b c)
     → IfSome slot (λ x. key < 2 ^ 32 → IsFalse (is_lost x) → GetsTurn s told may_wait key x result a c)
-done_at s told may_wait next key result a b c None slot' h e p d = tt
-done_at s told may_wait next key result a b c (Some x) None h e p d = absurd cc
-done_at {S} {C} {T} s told may_wait next key result a b c (Some x) (Some y) h e p d = λ k l.
+done_at s told may_wait next key result a b c None slot' h e p v d = tt
+done_at s told may_wait next key result a b c (Some x) None h e p v d = absurd cc
+done_at {S} {C} {T} s told may_wait next key result a b c (Some x) (Some y) h e p v d = λ k l.
     let same : standing_of y ≡ standing_of x = cc in
-    done_in x.phase s told may_wait (plan_of (has_room a.budgets) x) next key x.ready result a b c h (p k) (subst (λ (z : ℕ × Phase × Readiness). HasTurnIn z.1 s told next key z.2 result b c) same (d k))
+    done_in x.phase s told may_wait (plan_of (has_room a.budgets) x) next key x.ready result a b c h (p k) v (subst (λ (z : ℕ × Phase × Readiness). HasTurnIn z.1 s told next key z.2 result b c) same (d k))
 
 pub left_at : {S C T : Type 0} (s : CoreSteps C) (told : S → Option Traffic) (may_wait : ℕ → C → Bool) (key : ℕ) (result : Outcome) (a c : Open S C T) (slot : Option (Connection S)) → Stays (lanes_of told a) (lanes_of told c) → StatesStay a c
     → IfSome slot (λ x. key < 2 ^ 32 → Prepares may_wait key (plan_at x a) (Err result) a c) → IfSome slot (λ x. key < 2 ^ 32 → IsFalse (is_lost x) → GetsTurn s told may_wait key x result a c)

@@ -1,5 +1,5 @@
 -- What becomes of a connection in its turn: this project's own.
-use Rattle.std.specs.Prelude.{◌≡◌, ◌≢◌, ◌⊎◌, ℕ, ◌+◌, min, Option, Some, None, IfSome, is_some, Result, Ok, Err, Bool, true, false, not, ◌&&◌, IsTrue}
+use Rattle.std.specs.Prelude.{◌≡◌, ◌≢◌, ◌⊎◌, ◌≤◌, ℕ, ◌+◌, List, length, Option, Some, None, IfSome, is_some, Result, Ok, Err, Bool, true, false, not, ◌&&◌, IsTrue}
 use Rattle.std.specs.Option.{option_map}
 use Rattle.slab.specs.Slab.{Slab, get}
 use Rattle.memory_budget.specs.States.{may_grow}
@@ -22,10 +22,11 @@ use Rattle.connection_turns.specs.declared.connection.Outcome.{Outcome}
 use Rattle.connection_turns.specs.declared.connection.Outcome.TheVariants as outcome
 use Rattle.connection_turns.specs.declared.ending.End.TheVariants as end
 use Rattle.connection_turns.specs.Planning.{can_go_by, ends, plan_of}
-use Rattle.connection_turns.specs.Turning.{DrainsOn}
+use Rattle.connection_turns.specs.Turning.{Adds, DrainsOn}
 use Rattle.open_connections.specs.declared.budgets.Budgets.{Budgets}
 use Rattle.open_connections.specs.declared.open.Open.{Open}
 use Rattle.connection_turns.specs.Cores.{CoreSteps}
+use Rattle.open_connections.specs.Joined.{Joined}
 use Rattle.open_connections.specs.Looping.{Drained, HasTurn, Does, Stays}
 use Rattle.open_connections.specs.Opened.{lanes_of}
 use Rattle.open_connections.specs.Shares.{claim_at, is_covered}
@@ -83,17 +84,21 @@ abbrev pub is_held_in : Option Claim → Bool
 is_held_in None = false
 is_held_in (Some claim) = claim.is_granted
 
--- A reply of so many bytes may be given on the one with this key. No reply is longer than the longest.
+-- a reply of so many bytes may be given on the one with this key
 abbrev pub IsCovered : {S C T : Type 0} → (key reply : ℕ) → Open S C T → Type 0
-IsCovered key reply o = IsTrue (is_covered (claim_at o.connections key) (min reply MOST_REPLY))
+IsCovered key reply o = IsTrue (is_covered (claim_at o.connections key) reply)
+
+-- whatever may be answered on it now may be given, if each claim has its share
+abbrev pub AreCovered : {S C T : Type 0} → CoreSteps C → (key : ℕ) → Open S C T → Open S C T → Type 0
+AreCovered {C = C} s key old new = Joined (claim_at old.connections) old.budgets → (reply : List ℕ) (core : C) → s.answers key old.core reply core → IsCovered key (length reply) new
 
 -- it may be given once its claim is granted
 abbrev pub WillCover : {S C T : Type 0} → (key reply : ℕ) → Open S C T → Type 0
-WillCover key reply o = IfSome (claim_at o.connections key) (λ claim. IsTrue (covers_in claim.purpose claim.bytes (min reply MOST_REPLY)))
+WillCover key reply o = IfSome (claim_at o.connections key) (λ claim. IsTrue (covers_in claim.purpose claim.bytes reply))
 
--- so much as a reply needs is asked for of the tenants' budget
+-- so much as a reply needs is asked for of the tenants' budget: no more than a longest one
 abbrev pub IsForReply : Need → Type 0
-IsForReply need = (need.pool ≡ Tenants) × (need.purpose ≡ Reply)
+IsForReply need = (need.pool ≡ Tenants) × (need.purpose ≡ Reply) × (need.bytes ≤ MOST_REPLY)
 
 -- whether a turn by this plan answers
 abbrev pub is_answering : TurnPlan → Bool
@@ -102,8 +107,8 @@ is_answering Read = false
 is_answering Answer = true
 is_answering All = true
 
--- One that is served has its turn by this plan. If that can do something, bytes or requests of this turn move, or what might have been done wants a wait. It is over if nothing is
--- read or written any more. If they move nothing, nothing may be done now that might not be before.
+-- One that is served has its turn by this plan, which adds at most so much to what is owed. If it can do something, bytes or requests of this turn move, or what might have been done
+-- wants a wait. It is over if nothing is read or written any more. If they move nothing, nothing may be done now that might not be before.
 pub record TurnsBy {S C T : Type 0} (s : CoreSteps C) (told : S → Option Traffic) (plan : TurnPlan) (key : ℕ) (ready : Readiness) (result : Outcome) (old new : Open S C T) : Type 0 where
   pub turn : Does s (HasTurn key) (lanes_of told old) (lanes_of told new)
   pub ready' : Readiness
@@ -111,6 +116,7 @@ pub record TurnsBy {S C T : Type 0} (s : CoreSteps C) (told : S → Option Traff
   pub goes_on : can_go_by plan ready turn.line ≡ true → (moves turn.line turn.takes_turn.events ≡ true) ⊎ HasFallen ready ready'
   pub rises : moves turn.line turn.takes_turn.events ≡ false → HasNotRisen ready ready'
   pub over : ends result ≡ is_over turn.line'
+  pub adds : Adds plan (s.answers key) old.core (length turn.line.owed) (length turn.line'.owed)
 
 -- What still comes on one that is served no further is thrown away: bytes came, or a read would wait, or the connection is to be closed.
 pub record DrainsAt {S C T : Type 0} (s : CoreSteps C) (told : S → Option Traffic) (key : ℕ) (result : Outcome) (old new : Open S C T) : Type 0 where
@@ -146,11 +152,11 @@ Prepares may_wait key plan (Ok next) old new = (next ≡ plan) ⊎ ((next ≡ Wr
 Prepares may_wait key plan (Err result) old new =
     ((result ≡ outcome.Over end.Memory) × IsTrue (is_answering plan)) ⊎ ((result ≡ outcome.Open) × (plan ≡ Answer) × IsQueued key new)
 
--- One that is served has its turn by its plan. If the plan answers, what is owed may be written in place of that, where the request may wait for a query. Or nothing is done: memory is
--- refused, or the reply waits for a share.
+-- One that is served has its turn by its plan. If that answers one request, a granted share covers the reply, or it is within what each may have without one. If the plan answers, what is
+-- owed may be written in place of that, where the request may wait for a query. Or nothing is done: memory is refused, or the reply waits for a share.
 abbrev pub GetsTurnIn : {S C T : Type 0} → Phase → CoreSteps C → (S → Option Traffic) → (ℕ → C → Bool) → TurnPlan → (key : ℕ) → Readiness → Outcome → Open S C T → Open S C T → Type 0
 GetsTurnIn Served s told may_wait plan key ready result old new =
-    TurnsBy s told plan key ready result old new
+    (TurnsBy s told plan key ready result old new × (plan ≡ Answer → AreCovered s key old new))
     ⊎ ((StandsBy may_wait key plan old × TurnsBy s told Write key ready result old new)
     ⊎ (Stays (lanes_of told old) (lanes_of told new) × StatesStay old new × Prepares may_wait key plan (Err result) old new))
 GetsTurnIn Lingering s told may_wait plan key ready result old new = DrainsAt s told key result old new

@@ -2,12 +2,11 @@
 ghost use Rattle.std.specs.Prelude.{◌<◌, ◌≡◌, ◌^◌, length, None, Some, IfOk, IfSome, IsFalse, IsTrue, MatchOption, OnOk};
 ghost use Rattle.slab.specs.Slab.{get};
 ghost use Rattle.connection_turns.specs.Held.{share_after};
-ghost use Rattle.connection_turns.specs.declared.ahead.Ahead.{Ahead};
 ghost use Rattle.open_connections.specs.Joined.{Joined};
 ghost use Rattle.open_connections.specs.Looping.{Stays};
 ghost use Rattle.open_connections.specs.Opened.{lanes_of};
 ghost use Rattle.open_connections.specs.Shares.{StayFree, IsGivenBack, claim_at};
-ghost use Rattle.open_connections.specs.Turns.{ClaimsStay, HasClaim, IsCovered, IsForReply, IsQueued, StatesStay, WillCover};
+ghost use Rattle.open_connections.specs.Turns.{AreCovered, ClaimsStay, HasClaim, IsCovered, IsForReply, IsQueued, StatesStay, WillCover};
 ghost use Rattle.open_connections.specs.Woken.{StaysWoken, WakesOthers};
 
 use crate::needs::{covers, is_for_reply, is_held, need, need_of_reply};
@@ -16,15 +15,16 @@ use crate::open::Open;
 use connection_turns::{After, Ahead, Claim, LoopCore, Need, Purpose};
 use socket_poll::{Peer, Time};
 use std::alloc::AllocError;
+use wire_frames::MOST_REPLY;
 
 impl<S: Peer, C: LoopCore, T: Time + Drop> Open<S, C, T> {
     // Whether there is room for the reply to the first request that waits; where it takes a share, that is asked for. The reply's length is
-    // looked at right before it is given, since other requests may change it.
+    // looked at right before it is given, since other requests may change it. No share is asked for that is longer than any reply.
     pub(crate) fn may_answer(&mut self, key: usize, now: u64) -> Result<bool, AllocError>
         ensures lanes { Stays (lanes_of S.told self.old) (lanes_of S.told self.new) }
         ensures ready { StatesStay self.old self.new }
         ensures queued { IfOk result (λ may. IsFalse may → key < 2 ^ 32 → IfSome (get self.old.connections key) (λ _. IsQueued key self.new)) }
-        ensures covered { IfOk result (λ may. IsTrue may → Joined (claim_at self.old.connections) self.old.budgets → (ahead : Ahead) × C.aheads key self.old.core ahead × IsCovered key ahead.most_reply self.new) }
+        ensures covered { IfOk result (λ may. IsTrue may → AreCovered C.steps key self.old self.new) }
         ensures woken { WakesOthers key self.old self.new }
     {
         let Some(conn) = conn_of(key) else {
@@ -36,6 +36,9 @@ impl<S: Peer, C: LoopCore, T: Time + Drop> Open<S, C, T> {
         };
         if covers(connection.claim, front.most_reply) {
             return Ok(true);
+        }
+        if front.most_reply > MOST_REPLY {
+            return Err(AllocError);
         }
         let reply = need_of_reply(&front);
         self.yield_share(key, now);

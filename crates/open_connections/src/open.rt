@@ -11,7 +11,7 @@ ghost use Rattle.due_list.specs.Rounds.{IsFresh, after_turn, party_of};
 ghost use Rattle.open_connections.specs.Opened.{lanes_of, bytes_of, expiry_at, has_time, is_long, is_there, is_open_at, owes_much, IsMarked, IsPutOff, IsStanding, IsListed, IsAsDue, HasLeft, lost_at, rests_at, tenant_at};
 ghost use Rattle.open_connections.specs.Joined.{Joined};
 ghost use Rattle.open_connections.specs.Shares.{fresh_budgets, left_of, limit_of, IsWithin, IsGivenBack, claim_at};
-ghost use Rattle.open_connections.specs.Turns.{ClaimsStay, GetsTurn, HasTurnBy, OthersStand, Prepares, StatesStay, is_answering, plan_at};
+ghost use Rattle.open_connections.specs.Turns.{AreCovered, ClaimsStay, GetsTurn, HasTurnBy, OthersStand, Prepares, StatesStay, is_answering, plan_at};
 ghost use Rattle.open_connections.specs.Woken.{Hands, IsWoken, Passes, Recalls, StaysWoken, TakesOff, TurnsStay, Wakes, WakesOthers, is_awake};
 
 use crate::bounds::share_of;
@@ -371,6 +371,7 @@ impl<S: Peer, C: LoopCore, T: Time + Drop> Open<S, C, T> {
         ensures lanes { Stays (lanes_of S.told self.old) (lanes_of S.told self.new) }
         ensures ready { StatesStay self.old self.new }
         ensures plan { IfSome (get self.old.connections key) (λ c. key < 2 ^ 32 → Prepares C.may_wait key (plan_at c self.old) result self.old self.new) }
+        ensures covered { IfOk result (λ plan. plan ≡ TurnPlan.Answer → AreCovered C.steps key self.old self.new) }
         ensures woken { TakesOff key self.old self.new }
     {
         let Some(plan) = self.plan(key) else {
@@ -391,6 +392,7 @@ impl<S: Peer, C: LoopCore, T: Time + Drop> Open<S, C, T> {
         ensures lanes { Stays (lanes_of S.told self.old) (lanes_of S.told self.new) }
         ensures ready { StatesStay self.old self.new }
         ensures plan { IfSome (get self.old.connections key) (λ _. key < 2 ^ 32 → Prepares C.may_wait key TurnPlan.Answer result self.old self.new) }
+        ensures covered { IfOk result (λ _. AreCovered C.steps key self.old self.new) }
         ensures woken { WakesOthers key self.old self.new }
     {
         match self.may_answer(key, now) {
@@ -439,6 +441,7 @@ impl<S: Peer, C: LoopCore, T: Time + Drop> Open<S, C, T> {
         ensures others { OthersStand key self.old self.new }
         ensures bytes { IsFalse result.1 → bytes_of self.new ≡ bytes_of self.old }
         ensures given { IfSome (get self.old.connections key) (λ c. key < 2 ^ 32 → HasTurnBy C.steps S.told plan key c result.0 self.old self.new) }
+        ensures claim { claim_at self.new.connections key ≡ claim_at self.old.connections key }
         ensures there { is_open_at key self.new ≡ is_open_at key self.old }
         ensures woken { WakesOthers key self.old self.new }
     {

@@ -4,7 +4,7 @@ use Rattle.std.specs.Prelude.{Option, Some, None, ◌||◌, ◌&&◌, not, ◌�
 use Rattle.std.proofs.lemmas.Bool.{cases_Bool}
 use Rattle.outbox.specs.Lines.{Line, Event, after, run, gathered, read_at, sent_at, read, sent, reads}
 use Rattle.outbox.specs.Traffic.{Traffic, moved}
-use Rattle.outbox.specs.Turns.{Turned, Moment, DoesAll, moves, moves_at, HasFallen, HasNotRisen, count_of, pieces_at, answers_at, most_requests, can_write, can_read, can_answer, can_go_on}
+use Rattle.outbox.specs.Turns.{Turned, Moment, DoesAll, moves, moves_at, HasFallen, HasNotRisen, count_of, pieces_at, answers_at, most_requests, can_write, can_read, can_answer, can_reply, can_go_on}
 use Rattle.outbox.specs.declared.readiness.Readiness.{Readiness}
 
 run-append : (line : Line) (es fs : List Event) → run line (es ++ fs) ≡ run (run line es) fs
@@ -173,3 +173,17 @@ four T R I O a b c d e v x y z =
     (both 1 most_requests 0 0 T R I O (either (either can_write can_read) can_answer) can_write a d e
     (both 1 0 0 most_requests T R I O (either can_write can_read) can_answer a c d
     (both 0 0 1 0 T R I O can_write can_read a b c v x) y) z)
+
+write_again : (w a : Bool) → ((w || a) || w) ≡ (a || w)
+write_again true true = refl
+write_again true false = refl
+write_again false true = refl
+write_again false false = refl
+
+-- a write, an answer, and a write again
+pub three : {C : Type 0} (T R : C → List ℕ → C → Type 0) (I : C → Type 0) (O : C → Bool) (a b c d : Moment C)
+    → Turned 0 0 T R I O can_write a b → Turned 0 1 T R I O can_answer b c → Turned 0 0 T R I O can_write c d → Turned 0 1 T R I O can_reply a d
+three T R I O a b c d v x y =
+    renamed 0 1 T R I O (either (either can_write can_answer) can_write) can_reply a d (write_again (can_write a.ready a.line) (can_answer a.ready a.line))
+    (both 0 1 0 0 T R I O (either can_write can_answer) can_write a c d
+    (both 0 0 0 1 T R I O can_write can_answer a b c v x) y)

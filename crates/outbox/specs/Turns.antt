@@ -33,7 +33,7 @@ abbrev pub moves : Line → List Event → Bool
 moves line [] = false
 moves line (e ∷ es) = moves_at line e || moves (after line e) es
 
--- what may be done without a wait: a write, a read, which is not done where a request waits, an answer, any of them
+-- what may be done without a wait: a write, a read, which is not done where a request waits, an answer, an answer or a write, any of them
 abbrev pub can_write : Readiness → Line → Bool
 can_write ready line = ready.writable && owes line
 
@@ -42,6 +42,9 @@ can_read ready line = (ready.readable && not ready.waiting) && reads line
 
 abbrev pub can_answer : Readiness → Line → Bool
 can_answer ready line = ready.waiting && reads line
+
+abbrev pub can_reply : Readiness → Line → Bool
+can_reply ready line = can_answer ready line || can_write ready line
 
 abbrev pub can_go_on : Readiness → Line → Bool
 can_go_on ready line = (ready.readable || ready.waiting) && reads line || can_write ready line

@@ -17,5 +17,5 @@ pub use laws::{alone, bounded, drains, in_order};
 pub use owing::{CAP, Outbox};
 pub use readiness::Readiness;
 pub use stage::Stage;
-pub use turns::{REQUESTS, feed, flush, turn};
+pub use turns::{REQUESTS, feed, flush, reply, turn};
 pub use wire::{Given, Taken, Wire};

@@ -1,7 +1,7 @@
 //! One turn on one connection.
 ghost use Rattle.std.specs.Prelude.{◌<◌, length, Option};
 ghost use Rattle.outbox.specs.Traffic.{HasMoved, Traffic};
-ghost use Rattle.outbox.specs.Turns.{Turned, Flushes, here, can_read, can_answer, can_go_on, most_requests};
+ghost use Rattle.outbox.specs.Turns.{Turned, Flushes, here, can_read, can_answer, can_go_on, can_reply, most_requests};
 
 use crate::answers::{Core, Step};
 use crate::owing::Outbox;
@@ -34,6 +34,26 @@ pub fn turn<W: Wire, C: Core>(
     answer(outbox, core, conn, ready);
     let behind = flush(outbox, wire, ready);
     (read, before.saturating_add(behind))
+}
+
+/// Writes the bytes owed, answers one request at most, and writes again. It does not read. The number is that of the bytes that were written.
+///
+/// Faults of the wire, a last answer and a refused one have the same effect as in a [`turn`].
+pub fn reply<W: Wire, C: Core>(
+    outbox: &mut Outbox,
+    wire: &mut W,
+    core: &mut C,
+    conn: u32,
+    ready: &mut Readiness,
+) -> usize
+    ensures turned { Turned 0 1 (C.takes conn) (C.answers conn) (C.idle conn) (C.over conn) can_reply
+        (here outbox.old (W.told wire.old) core.old ready.old) (here outbox.new (W.told wire.new) core.new ready.new) }
+    ensures moved { HasMoved (W.told wire.old) (W.told wire.new) 0 result }
+{
+    let before = flush(outbox, wire, ready);
+    answer_one(outbox, core, conn, ready);
+    let behind = flush(outbox, wire, ready);
+    before.saturating_add(behind)
 }
 
 /// Writes once, if something is owed and there may be room for it. It neither reads nor answers. The number is that of the bytes that were written.

@@ -1,7 +1,6 @@
 use Rattle.std.proofs.Common.{Some, ap, refl, sym}
 use Rattle.std.specs.Prelude.{is_some}
 use Rattle.std.specs.Option.{option_map}
-use Rattle.wire_frames.specs.declared.parts.TheConstants.{MOST_REPLY}
 use Rattle.open_connections.specs.Opened.{bytes_of}
 use Rattle.open_connections.proofs.Joined.{asked_joined, if_claim, now_at}
 use Rattle.open_connections.proofs.Keeping.{asked_covers, keep_at, keep_then}
@@ -43,4 +42,4 @@ returns-clause-covers g c = λ j r.
     let o = c.release.new.self in
     let was = c.release.ensures.lanes.joined j in
     if_claim _ c.in_ok-claim.claim _ (now_at c.release.new.self.connections _ c.args.key _ (written c.release.new.self.connections c.args.key c.in-Some.connection.now (record c.in-Some.connection.now { claim = Some c.in_ok-claim.claim }) (sym c.in-Some.ensures.value)) (Some c.in_ok-claim.claim) refl)
-    (asked_covers c.args.need.now c.args.now o.budgets MOST_REPLY c.in_ok-claim.claim was.most r.0 r.1 c.in_ok-claim.ensures.claim)
+    (asked_covers c.args.need.now c.args.now o.budgets c.in_ok-claim.claim was.most r c.in_ok-claim.ensures.claim)

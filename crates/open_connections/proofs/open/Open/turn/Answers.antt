@@ -2,7 +2,7 @@ use Rattle.std.proofs.Common.{inr, ◌∙◌}
 use Rattle.slab.specs.Slab.{get}
 use Rattle.open_connections.proofs.Looping.{then_turn}
 use Rattle.open_connections.proofs.Turns.{done_at, left_at}
-use Rattle.open_connections.proofs.Keeping.{open_alike, others_stand, others_then}
+use Rattle.open_connections.proofs.Keeping.{covered_then, open_alike, others_stand, others_then}
 use Rattle.open_connections.proofs.open.Open.turn.Goals as goal
 
 pub returns-in-Ok-clause-lanes : goal.returns-in-Ok-clause-lanes
@@ -10,7 +10,8 @@ returns-in-Ok-clause-lanes g c = then_turn g.C.LoopCore.steps c.args.key _ _ _ c
 
 pub returns-in-Ok-clause-given : goal.returns-in-Ok-clause-given
 returns-in-Ok-clause-given g c =
-    done_at g.C.LoopCore.steps g.S.Wire.told g.C.LoopCore.may_wait _ c.args.key _ c.args.self.now c.prepare.new.self c.work.new.self (get c.args.self.now.connections c.args.key) (get c.prepare.new.self.connections c.args.key) c.prepare.ensures.lanes (c.prepare.ensures.ready.at c.args.key) c.in-Ok.ensures.plan c.work.ensures.given
+    done_at g.C.LoopCore.steps g.S.Wire.told g.C.LoopCore.may_wait _ c.args.key _ c.args.self.now c.prepare.new.self c.work.new.self (get c.args.self.now.connections c.args.key) (get c.prepare.new.self.connections c.args.key) c.prepare.ensures.lanes (c.prepare.ensures.ready.at c.args.key) c.in-Ok.ensures.plan
+    (λ e. covered_then g.C.LoopCore.steps c.args.key c.args.self.now c.prepare.new.self c.work.new.self c.work.ensures.claim (c.in-Ok.ensures.covered e)) c.work.ensures.given
 
 pub returns-in-Err-clause-lanes : goal.returns-in-Err-clause-lanes
 returns-in-Err-clause-lanes g c = inr (inr c.prepare.ensures.lanes)

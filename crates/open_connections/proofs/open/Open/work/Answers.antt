@@ -1,9 +1,10 @@
-use Rattle.std.proofs.Common.{arith, inl, inr, refl, sym, rules}
+use Rattle.std.proofs.Common.{arith, length, inl, inr, refl, subst, sym, rules, ℕ}
 use Rattle.connection_turns.specs.Planning.{can_go_by}
+use Rattle.connection_turns.specs.Turning.{Adds}
 use Rattle.open_connections.specs.Opened.{bytes_of}
 use Rattle.open_connections.proofs.Steps.{written}
 use Rattle.open_connections.proofs.Turns.{at_slot, drain_lanes, drained_by, lingers_by, served_by, turn_lanes, turned_by}
-use Rattle.open_connections.proofs.Keeping.{one_changes}
+use Rattle.open_connections.proofs.Keeping.{claim_kept, one_changes}
 use Rattle.open_connections.proofs.Woken.{others_woken}
 use Rattle.open_connections.proofs.open.Open.work.Goals as goal
 
@@ -30,7 +31,8 @@ returns-in-Served-clause-given g c =
     at_slot _ _ c.in-Some-get_mut.connection.now (sym c.in-Some-get_mut.ensures.value) (λ k. served_by g.C.LoopCore.steps g.S.Wire.told c.args.plan c.args.key c.in-Some-get_mut.connection.now _ c.args.self.now _ c.in-Served.is
     (turned_by g.C.LoopCore.steps g.S.Wire.told c.args.plan c.args.key c.in-Some.conn _ c.args.self.now _ c.in-Some-get_mut.connection.now c.turn-read.new.self _ _ (λ old piece new t. t) (λ old reply new a. a) c.in-Some.ensures.same (sym c.in-Some-get_mut.ensures.value)
     (written c.args.self.now.connections c.args.key c.in-Some-get_mut.connection.now c.turn-read.new.self (sym c.in-Some-get_mut.ensures.value)) refl c.turn-read.ensures.claim c.in-Served.is c.turn-read.ensures.phase c.turn-read.ensures.turn
-    (record { read = c.turn-read.result.0; written = c.turn-read.result.1; moved = c.turn-read.ensures.moved; read_is = c.added-self.ensures.all; written_is = c.added-self-in-Served.ensures.all }) c.outcome.ensures.over))
+    (record { read = c.turn-read.result.0; written = c.turn-read.result.1; moved = c.turn-read.ensures.moved; read_is = c.added-self.ensures.all; written_is = c.added-self-in-Served.ensures.all }) c.outcome.ensures.over
+    (subst (λ (n : ℕ). Adds c.args.plan (g.C.LoopCore.steps.answers n) c.args.self.now.core (length c.in-Some-get_mut.connection.now.outbox.owed) (length c.turn-read.new.self.outbox.owed)) c.in-Some.ensures.same c.turn-read.ensures.owed)))
 
 pub returns-in-Lingering-clause-others : goal.returns-in-Lingering-clause-others
 returns-in-Lingering-clause-others g c = one_changes c.args.key c.args.self.now _ _ (written c.args.self.now.connections c.args.key c.in-Some-get_mut.connection.now c.drain.new.self (sym c.in-Some-get_mut.ensures.value)) (search rules)
@@ -40,3 +42,9 @@ returns-in-Served-clause-others g c = one_changes c.args.key c.args.self.now _ _
 
 pub returns-in-Served-clause-woken : goal.returns-in-Served-clause-woken
 returns-in-Served-clause-woken g c = others_woken _ _ _ _ c.args.self.now.connections c.args.key c.in-Some-get_mut.connection.now c.turn-read.new.self (sym c.in-Some-get_mut.ensures.value) c.turn-read.ensures.due
+
+pub returns-in-Lingering-clause-claim : goal.returns-in-Lingering-clause-claim
+returns-in-Lingering-clause-claim g c = claim_kept c.args.self.now.connections c.args.key c.in-Some-get_mut.connection.now c.drain.new.self (sym c.in-Some-get_mut.ensures.value) c.drain.ensures.claim
+
+pub returns-in-Served-clause-claim : goal.returns-in-Served-clause-claim
+returns-in-Served-clause-claim g c = claim_kept c.args.self.now.connections c.args.key c.in-Some-get_mut.connection.now c.turn-read.new.self (sym c.in-Some-get_mut.ensures.value) c.turn-read.ensures.claim
