@@ -1,5 +1,5 @@
 -- What the steps of a loop over one hub come to: this project's own.
-use Rattle.std.specs.Prelude.{◌≡◌, ℕ, List, [], ◌∷◌, ◌++◌, map, Option, Some}
+use Rattle.std.specs.Prelude.{◌≡◌, ◌⊎◌, ℕ, List, [], ◌∷◌, ◌++◌, map, Option, Some}
 use Rattle.outbox.specs.Lines.{Line}
 use Rattle.outbox.specs.Traffic.{Traffic}
 use Rattle.outbox.specs.Turns.{DoesAll}
@@ -37,6 +37,10 @@ AllHappen lines (act ∷ acts) old new = (mid : Measured) × Happens lines act o
 abbrev pub Extends : (ℕ → Line) → (ℕ → Option Line) → Type 0
 Extends all served = (q : ℕ) (line : Line) → served q ≡ Some line → all q ≡ line
 
+-- one that is served behind these acts was so before them and is kept in all, or is opened in one and kept in those behind
+abbrev pub IsKeptSince : ℕ → List Act → (old : Option Line) → Type 0
+IsKeptSince q acts old = ((line : Line) × (old ≡ Some line) × IsKept q acts) ⊎ ((before : List Act) × (mid : List Act) × (acts ≡ before ++ (Opened q ∷ mid)) × IsKept q mid)
+
 -- the acts that the steps are, one each: each request that is answered in them is counted once, and what is read and written moves on the streams
 pub record ActsOf (steps : List Step) (lines : ℕ → Line) (old new : Lanes Measured) : Type 0 where
   pub acts : List Act
@@ -44,6 +48,7 @@ pub record ActsOf (steps : List Step) (lines : ℕ → Line) (old new : Lanes Me
   pub happen : AllHappen lines acts old.core new.core
   pub move : AllMove lines acts old.wires new.wires
   pub lines_are : Extends (all_lines_after lines acts) new.lines
+  pub kept : (q : ℕ) (line : Line) → new.lines q ≡ Some line → IsKeptSince q acts (old.lines q)
 
 -- the bytes written to a peer are a prefix of the replies to the first requests in the bytes read of it
 pub record IsAnswered (q : ℕ) (items : List Item) (replies : List Reply) (t : Traffic) : Type 0 where
@@ -63,11 +68,18 @@ pub record Session (lines : ℕ → Line) (items : List Item) (q : ℕ) (before 
 abbrev pub Sessions : (ℕ → Line) → List Act → List Item → (old new : ℕ → Option Traffic) → Type 0
 Sessions lines acts items old new = (q : ℕ) (before mid behind : List Act) → acts ≡ before ++ (Opened q ∷ mid ++ behind) → IsKept q mid → Session lines items q before mid behind old new
 
+-- steps as acts that are served
+abbrev pub StepsAreServed : List Step → (ℕ → Line) → (old new : Lanes Measured) → Type 0
+StepsAreServed steps lines old new = (done : ActsOf steps lines old new) × (served : Serves lines old.core.hub done.acts new.core.hub) × Sessions lines done.acts served.items old.wires new.wires
+
 abbrev pub LoopIsServed : Type 0
-LoopIsServed = (steps : List Step) (lines : ℕ → Line) (old new : Lanes Measured) → Extends lines old.lines → DoesEach hub_steps steps old new
-    → (done : ActsOf steps lines old new) × (served : Serves lines old.core.hub done.acts new.core.hub) × Sessions lines done.acts served.items old.wires new.wires
+LoopIsServed = (steps : List Step) (lines : ℕ → Line) (old new : Lanes Measured) → Extends lines old.lines → DoesEach hub_steps steps old new → StepsAreServed steps lines old new
 
 -- what the law says of what a loop did
-abbrev pub AreServed : Lanes Measured → Lanes Measured → Type 0
-AreServed old new = (lines : ℕ → Line) → Extends lines old.lines
-    → (steps : List Step) × (done : ActsOf steps lines old new) × (served : Serves lines old.core.hub done.acts new.core.hub) × Sessions lines done.acts served.items old.wires new.wires
+pub record AreServed (old new : Lanes Measured) : Type 0 where
+  pub over : (lines : ℕ → Line) → Extends lines old.lines → (steps : List Step) × StepsAreServed steps lines old new
+
+-- Where nothing was done, all are served. What is served in rounds, one behind the other, is so in all of them together.
+pub record JoinsRounds : Type 0 where
+  pub none : (a : Lanes Measured) → AreServed a a
+  pub both : (a b c : Lanes Measured) → AreServed a b → AreServed b c → AreServed a c

@@ -10,7 +10,7 @@ use crate::measured_hub::MeasuredHub;
 use event_loop::{Journal, LoopFault, Server, System, Time};
 
 /// Serves as [`Server::serve`] does. Whatever peers send and however connections come and go, each tenant's replies are those of its own requests alone.
-/// Take a connection that is accepted here and open at the end. The bytes written to it are a prefix of the replies to the first requests in the bytes
+/// Take a connection that is accepted here and served at the end. The bytes written to it are a prefix of the replies to the first requests in the bytes
 /// read of it. A server that takes in no connection serves only what it served before.
 ///
 /// # Errors
@@ -31,7 +31,7 @@ pub fn serve<S: System + Drop, T: Time + Drop, J: Journal>(
     server.serve(journal)
 }
 
-/// Goes one round as [`Server::step`] does. What [`serve`] promises holds of it.
+/// Goes one round as [`Server::step`] does. What [`serve`] promises holds of it, and of rounds that follow one another ([`rounds_join`](crate::rounds_join)).
 ///
 /// # Errors
 ///

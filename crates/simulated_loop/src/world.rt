@@ -1,13 +1,15 @@
 //! The system, its peers, and a run.
 
 ghost use Rattle.std.specs.Prelude.{Some, false};
+ghost use Rattle.event_loop.specs.Servers.{lanes_in};
+ghost use Rattle.hub_server.specs.Looping.{AreServed};
 
 use event_loop::{
     Accepted, Ending, Held, Journal, LEAST_MEMORY, Limits, Report, Server, System, Time, Totals,
     Woken,
 };
 use hub_core::HubCore;
-use hub_server::{MeasuredHub, step};
+use hub_server::{MeasuredHub, rounds_join, step};
 use path_hub::Hub;
 use simulated_peers::{Chance, End, Peer, Pipe, Shared, TENANTS, Tally, Times, key_of};
 use std::alloc::{AllocError, Global};
@@ -366,7 +368,7 @@ struct Stage<'w> {
 }
 
 impl<'w> Stage<'w> {
-    // So many rounds, and then all leave, and the last one comes.
+    // So many rounds, and then all leave, and the last one comes. All that is served in them is served as in one.
     fn run<R: Print>(
         &mut self,
         rt: &R,
@@ -374,7 +376,10 @@ impl<'w> Stage<'w> {
         rounds: u64,
         shared: &mut Shared,
         outcome: &mut Outcome,
-    ) -> Result<(), AllocError> {
+    ) -> Result<(), AllocError>
+        ensures { AreServed (lanes_in self.old.server.value) (lanes_in self.new.server.value) }
+    {
+        rounds_join();
         self.play(rt, peers, rounds, shared, outcome)?;
         outcome.calls = calls_of(self.room.pipes);
         quit_all(peers, self.room.pipes);
@@ -390,7 +395,10 @@ impl<'w> Stage<'w> {
         rounds: u64,
         shared: &mut Shared,
         outcome: &mut Outcome,
-    ) -> Result<(), AllocError> {
+    ) -> Result<(), AllocError>
+        ensures { AreServed (lanes_in self.old.server.value) (lanes_in self.new.server.value) }
+    {
+        rounds_join();
         'rounds: for round in 0..rounds {
             outcome.rounds = round.saturating_add(1);
             play_round(peers, self.room.pipes, shared);
@@ -404,7 +412,10 @@ impl<'w> Stage<'w> {
 
     // All have left, and one comes that asks for all its texts: for the longest reply there is room only where nobody holds memory any more. Whether
     // it came.
-    fn settle(&mut self, peers: &mut [Peer], shared: &mut Shared) -> Result<bool, AllocError> {
+    fn settle(&mut self, peers: &mut [Peer], shared: &mut Shared) -> Result<bool, AllocError>
+        ensures { AreServed (lanes_in self.old.server.value) (lanes_in self.new.server.value) }
+    {
+        rounds_join();
         'rounds: for _ in 0..PATIENCE {
             self.step()?;
             if others_closed(self.room.pipes) && ask(peers, self.room.pipes, shared) {
@@ -415,7 +426,9 @@ impl<'w> Stage<'w> {
     }
 
     // One round of the server.
-    fn step(&mut self) -> Result<(), AllocError> {
+    fn step(&mut self) -> Result<(), AllocError>
+        ensures { AreServed (lanes_in self.old.server.value) (lanes_in self.new.server.value) }
+    {
         let millis = self.room.millis;
         millis.set(millis.get().saturating_add(ROUND));
         match step(&mut self.server, &mut self.ends) {
