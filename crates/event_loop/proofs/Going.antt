@@ -1,17 +1,13 @@
 -- One round more, behind others.
-use Rattle.std.specs.Prelude.{◌≡◌, ◌+◌, ◌++◌, List, [], ◌∷◌, length, Bool, ℕ, Option}
+use Rattle.std.specs.Prelude.{◌+◌, ◌++◌, List, [], ◌∷◌, length, Bool, ℕ, Option}
 use Rattle.std.proofs.Common.{ap, length-append, refl, subst, ◌∙◌}
 use Rattle.outbox.specs.Traffic.{Traffic}
 use Rattle.connection_turns.specs.Cores.{CoreSteps}
-use Rattle.event_loop.specs.Servers.{GoesRounds, IsRound, Serving}
+use Rattle.event_loop.specs.Servers.{GoesRounds, GoesSoMany, IsRound, Serving}
 
 one_more : (S T : Type 0) {C : Type 0} (s : CoreSteps C) (told : S → Option Traffic) (may_wait longs : ℕ → C → Bool) (rounds : List (Serving C)) (a b c : Serving C) → GoesRounds S T s told may_wait longs rounds a b → IsRound S T s told may_wait longs b c → GoesRounds S T s told may_wait longs (rounds ++ (c ∷ [])) a c
 one_more S T s told may_wait longs [] a b c h r = (subst (λ x. IsRound S T s told may_wait longs x c) h r, refl)
 one_more S T s told may_wait longs (next ∷ rounds) a b c h r = (h.0, one_more S T s told may_wait longs rounds next b c h.1 r)
-
--- so many rounds
-abbrev pub GoesSoMany : (S T : Type 0) {C : Type 0} → CoreSteps C → (S → Option Traffic) → (may_wait longs : ℕ → C → Bool) → ℕ → (old new : Serving C) → Type 0
-GoesSoMany S T {C} s told may_wait longs n old new = (rounds : List (Serving C)) × GoesRounds S T s told may_wait longs rounds old new × (length rounds ≡ n)
 
 pub no_round : (S T : Type 0) {C : Type 0} (s : CoreSteps C) (told : S → Option Traffic) (may_wait longs : ℕ → C → Bool) (a : Serving C) → GoesSoMany S T s told may_wait longs 0 a a
 no_round S T s told may_wait longs a = ([], refl, refl)

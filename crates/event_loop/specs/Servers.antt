@@ -1,5 +1,5 @@
 -- A server of many connections, as its clauses see it: this project's own.
-use Rattle.std.specs.Prelude.{◌≡◌, ◌⊎◌, ◌^◌, ◌+◌, ℕ, Bool, IsFalse, IsTrue, List, [], ◌∷◌, length, Option, None, IfSome, slice_index_or}
+use Rattle.std.specs.Prelude.{◌≡◌, ◌⊎◌, ◌^◌, ◌-◌, ℕ, Bool, IsFalse, IsTrue, List, [], ◌∷◌, length, Option, None, IfSome, slice_index_or}
 use Rattle.outbox.specs.Lines.{Line}
 use Rattle.outbox.specs.Traffic.{Traffic}
 use Rattle.connection_turns.specs.declared.claim.Claim.{Claim}
@@ -81,12 +81,13 @@ abbrev pub ComesOfWaiting : LoopFault → (failed : Option Bool) → Type 0
 ComesOfWaiting (Net reason) failed = IfSome failed IsTrue
 ComesOfWaiting Memory failed = Unit {0}
 
--- Why a run fails: as a round does, or since it went as many rounds as there may be. What the last round did is not said here.
-pub record FailsBehind (S T : Type 0) {C : Type 0} (s : CoreSteps C) (told : S → Option Traffic) (may_wait longs : ℕ → C → Bool) (fault : LoopFault) (old new : Serving C) : Type 0 where
-  pub rounds : List (Serving C)
-  pub last : Serving C
-  pub goes : GoesRounds S T s told may_wait longs rounds old last
-  pub fails : ComesOfWaiting fault new.failed ⊎ (length rounds + 1 ≡ 2 ^ 64)
+-- so many rounds
+abbrev pub GoesSoMany : (S T : Type 0) {C : Type 0} → CoreSteps C → (S → Option Traffic) → (may_wait longs : ℕ → C → Bool) → ℕ → (old new : Serving C) → Type 0
+GoesSoMany S T {C} s told may_wait longs count old new = (rounds : List (Serving C)) × GoesRounds S T s told may_wait longs rounds old new × (length rounds ≡ count)
+
+-- Why a run fails: as a round does, or behind as many rounds as there may be.
+abbrev pub FailsBehind : (S T : Type 0) {C : Type 0} → CoreSteps C → (S → Option Traffic) → (may_wait longs : ℕ → C → Bool) → LoopFault → (old new : Serving C) → Type 0
+FailsBehind S T s told may_wait longs fault old new = ComesOfWaiting fault new.failed ⊎ GoesSoMany S T s told may_wait longs (2 ^ 64 - 1) old new
 
 -- it takes in no connection any more, and none is open
 pub record IsOver {C : Type 0} (server : Serving C) : Type 0 where

@@ -1,5 +1,6 @@
 //! The rounds of a loop: each waits for what is ready, takes connections in, and gives turns.
 ghost use Rattle.std.specs.Prelude.{◌≡◌, ◌<◌, ◌^◌, ◌&&◌, [], ℕ, None, is_some, not, IfErr, IfOk, IfSome, OnOk, IsFalse, IsTrue};
+ghost use Rattle.std.specs.Bool.{MatchBool};
 ghost use Rattle.outbox.specs.Traffic.{IsUnused};
 ghost use Rattle.open_connections.specs.Looping.{Stays, Does, DoesSome, DoesOn, DoesAtMost, TurnsAtMost, LetGo};
 ghost use Rattle.open_connections.specs.Opened.{lanes_of, connected_in, expiry_at, has_time, is_open_at, is_there, IsPutOff};
@@ -301,15 +302,30 @@ impl<S: System + Drop, C: LoopCore, T: Time + Drop> Rounds<S, C, T> {
     {
         steps_join::<C>();
         'accepts: for _accepted in 0..ACCEPTS {
-            if !self.may_accept() {
+            if !self.accept_next(journal) {
                 return;
             }
-            let place = self.place();
-            if matches!(place, Room::Full) {
-                return;
-            }
-            self.accept_one(place, journal);
         }
+    }
+
+    // Accepts one, if one may wait and there is room for it, and tells whether that was so.
+    fn accept_next<J: Journal>(&mut self, journal: &mut J) -> bool
+        ensures lanes { DoesSome C.steps (lanes_of S.Stream.told self.old.opened) (lanes_of S.Stream.told self.new.opened) }
+        ensures woken { StaysWoken self.old.opened self.new.opened }
+        ensures tried { IsTrue (self.old.acceptor.is_asked && not self.old.acceptor.is_refused) → connected_in self.old.opened < self.old.limits.connections → IsTrue result }
+        ensures asked { MatchBool result (IfSome (S.tried self.new.system) IsTrue) (S.tried self.new.system ≡ S.tried self.old.system) }
+    {
+        steps_join::<C>();
+        let may_come = self.may_accept();
+        if !may_come {
+            return false;
+        }
+        let place = self.place();
+        if matches!(place, Room::Full) {
+            return false;
+        }
+        self.accept_one(place, journal);
+        true
     }
 
     pub(crate) fn may_accept(&self) -> bool

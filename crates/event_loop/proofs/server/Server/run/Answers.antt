@@ -31,7 +31,7 @@ returns-then-is_over-clause-rounds g c = (c.rounds.invariant.rounds.0, c.rounds.
 pub returns-in_err-round-clause-fails : goal.returns-in_err-round-clause-fails
 returns-in_err-round-clause-fails g c =
     let p = err_from_is_err_and c.from_residual.result c.from_residual.ensures.1 in
-    rw (p.1, p.2) (record { rounds = c.rounds.invariant.rounds.0; last = c.rounds.self; goes = c.rounds.invariant.rounds.1; fails = inl c.in_err-round.ensures.fault })
+    rw (p.1, p.2) (inl c.in_err-round.ensures.fault)
 
 pub returns-clause-fails : goal.returns-clause-fails
-returns-clause-fails g c = record { rounds = c.rounds.invariant.rounds.0; last = c.rounds.self; goes = c.rounds.invariant.rounds.1; fails = inr (omega (arith, c.rounds.invariant.rounds.2, c.rounds-test.false)) }
+returns-clause-fails g c = inr (c.rounds.invariant.rounds.0, c.rounds.invariant.rounds.1, omega (arith, c.rounds.invariant.rounds.2, c.rounds-test.false))

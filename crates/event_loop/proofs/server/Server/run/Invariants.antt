@@ -1,7 +1,6 @@
 use Rattle.std.specs.Prelude.{IsFalse}
 use Rattle.open_connections.specs.Looping.{DoesSome}
-use Rattle.event_loop.specs.Servers.{StaysDeaf, lanes_in}
-use Rattle.event_loop.proofs.Going.{GoesSoMany}
+use Rattle.event_loop.specs.Servers.{GoesSoMany, StaysDeaf, lanes_in}
 use Rattle.event_loop.proofs.server.Server.run.Given as goal
 
 -- what was done so far
