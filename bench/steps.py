@@ -32,7 +32,7 @@ sys.path.append(str(TOP / "tests"))
 from administration import KEYS, administered, connected
 from hostile import LEAVES, TEXT, escaped, filled, kept_pairs, long_names, many, members, numbered, sorted_strings, twins
 from many import CHAIN, COSTLY, NESTED, PART, allow_descriptors
-from meeting_names import text_of
+from meeting_names import short_text, text_of
 from running import GET, QUERY, USAGE, items, name, need_program, put, read_exactly, reply, request
 from sockets import SMALL
 
@@ -192,7 +192,8 @@ def puts():
             "one string": '"' + "s" * (TEXT - 2) + '"', "one string of escapes": '"' + "\\n" * (TEXT // 2 - 1) + '"', "strings of one escape": many('"\\n"'),
             "numbers with exponents": many("-1.5e-3"), "orders": items(TEXT).decode(), "one object": members(numbered(800_000))[0],
             "one object, names spelt by escapes": members(escaped(800_000))[0], "one object, long names with an escape": members(long_names(80_000))[0],
-            "one object, names that meet": text_of("", TEXT, True).decode(), MEETING: text_of("\n", TEXT, True).decode()}
+            "one object, names that meet": text_of("", TEXT, True).decode(), MEETING: text_of("\n", TEXT, True).decode(),
+            "one object, short names that meet": short_text(TEXT).decode()}
     made = {kind: putting(text.encode()) for kind, text in made.items()}
     orders, short = made["orders"], putting(items(65_000))
     rows = [(kind, 1) for kind in made] + [("one string", it) for it in COUNTS] + [(kind, it) for kind in (REFUSED, "orders") for it in (10, 100)] + [(MEETING, 10)]

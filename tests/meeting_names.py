@@ -5,10 +5,12 @@ The names are made for the factor that stands in the source of the hash. Each te
 `path_server query` says of it is compared: one member is found, and a name that comes again is refused. The time is compared with that of a text of
 the same length whose hashes differ; it is at most 12 times as long in the best of three tries. BYTES is the length of the texts, 4 MiB by default.
 Objects of 15 to 18 and of 63 to 66 members have names of one mark, of one place among the marks, and usual ones, each with and without a name that
-comes again. What is said of them is compared with Python's `json`, which hands out the pairs of each object.
+comes again. What is said of them is compared with Python's `json`, which hands out the pairs of each object. One more object, of a quarter of BYTES, has short names
+of one hash in no order.
 The program is the one that bin/build makes, or the one that the environment's PATH_SERVER names.
 """
 import bisect
+import itertools
 import json
 import os
 import random
@@ -28,6 +30,8 @@ LETTERS = 8
 """So many scalar values are one word of a hash."""
 TARGET = 0x0123456789ABCDEF
 RATIO, TRIES = 12, 3
+HALF = 2**32
+SHORT_LETTERS = bytes(it for it in range(33, 127) if chr(it) not in '"\\')
 SIZES = [*range(15, 19), *range(63, 67)]
 MARKED = 10_000
 STAMP, PLACE = 47, 55
@@ -63,6 +67,27 @@ def name_at(front, number, meets):
     """A name that begins with these and is told apart by its number; its last word makes its hash."""
     first = front + f"{number:0{LETTERS - len(front) % LETTERS}}"
     return first + eight_letters((TARGET - hash_of(first) * FACTOR) % WORDS if meets else number * FACTOR % WORDS)
+
+
+def short_names(count, chance):
+    """So many names of eight letters, in no order, that have one hash of 32 bits: the first four letters are made for the last four."""
+    inverse, target, pairs, names = pow(FACTOR, -1, HALF), TARGET >> 32, bytearray(1 << 16), []
+    for pair in itertools.product(SHORT_LETTERS, repeat=2):
+        pairs[int.from_bytes(bytes(pair), "big")] = 1
+    for front in itertools.product(SHORT_LETTERS, repeat=3):
+        for last in (int.from_bytes(bytes(front), "big") << 8 | it for it in SHORT_LETTERS):
+            first = (target - (last * FACTOR >> 32)) * inverse % HALF
+            if pairs[first >> 16] and pairs[first & 65535]:
+                names.append((first << 32 | last).to_bytes(8, "big").decode())
+        if len(names) >= count:
+            break
+    return chance.sample(names, count)
+
+
+def short_text(length, again=False, before=""):
+    """One object of about so many bytes, of short names of one hash behind the same letters; its last name is its first one again if that is wanted."""
+    names = [before + it for it in short_names(length // (len(before) + 13), random.Random(17))]
+    return ("{" + ",".join(map(spelt, names[:-1] + names[:1] if again else names)) + "}").encode()
 
 
 def spelt(name):
@@ -103,6 +128,18 @@ def try_kind(report, kind, front, length):
         if min(ratios) <= RATIO:
             break
     report.case(f"{kind}: at most {RATIO} times as long, {min(ratios):.1f}", "", True, min(ratios) <= RATIO)
+
+
+def try_short(report, length):
+    """Short names of one hash: each is found, and one that comes again."""
+    text = short_text(length)
+    paths = list(json.loads(text))
+    for name in (paths[0], paths[len(paths) // 2], paths[-1]):
+        path = name.replace("'", "\\'")
+        report.case("short names of one hash: a member", path, (0, f"$['{path}']\t0\n".encode(), b""), ask(text, f"$['{path}']")[0])
+    report.case("short names of one hash: no member", "$.none", (0, b"", b""), ask(text, "$.none")[0])
+    again = ask(short_text(length, again=True), "$.none")[0]
+    report.case("short names of one hash: a name that comes again", "", (1, b"", b"DuplicateName"), (*again[:2], again[2].split(b"\n")[0].split()[-1]))
 
 
 def two_words(data, first, last):
@@ -205,6 +242,7 @@ def main():
     report, length = Report(), int(sys.argv[1]) if len(sys.argv) > 1 else 4 << 20
     for kind, front in (("names as they are meant", ""), ("names with an escape", "\n"), ("many escapes", "\n" * 16)):
         try_kind(report, kind, front, length)
+    try_short(report, length // 4)
     try_marks(report)
     report.close("meeting_names")
 
