@@ -89,13 +89,13 @@ begins_other text string name q some ascii plain other =
 
 -- ---- The hash of what the bytes from a place on mean
 
-hash_plain : (inside : List ℕ) (i : ℕ) (h : Hashing) → i < length inside → get_or inside i 0 < 128 → get_or inside i 0 ≢ 92
-    → hash_from (more h (get_or inside i 0)) (scalars_in (chars (drop (i + 1) inside))) ≡ hash_from h (scalars_in (chars (drop i inside)))
-hash_plain inside i h l k n = sym (ap (hash_from h) (plain_at inside i l k n))
+hash_plain : (f : ℕ) (inside : List ℕ) (i : ℕ) (h : Hashing) → i < length inside → get_or inside i 0 < 128 → get_or inside i 0 ≢ 92
+    → hash_from f (more f h (get_or inside i 0)) (scalars_in (chars (drop (i + 1) inside))) ≡ hash_from f h (scalars_in (chars (drop i inside)))
+hash_plain f inside i h l k n = sym (ap (hash_from f h) (plain_at inside i l k n))
 
-pub hash_over : (inside bytes : List ℕ) (i u : ℕ) (h v : Hashing) → bytes ≡ inside → i < length bytes → get_or bytes i 0 < 128 → get_or bytes i 0 ≢ 92 → u ≡ get_or bytes i 0 → v ≡ more h u
-    → hash_from v (scalars_in (chars (drop (i + 1) inside))) ≡ hash_from h (scalars_in (chars (drop i inside)))
-hash_over inside bytes i u h v e l k n f g = grind (arith, hash_plain)
+pub hash_over : (f : ℕ) (inside bytes : List ℕ) (i u : ℕ) (h v : Hashing) → bytes ≡ inside → i < length bytes → get_or bytes i 0 < 128 → get_or bytes i 0 ≢ 92 → u ≡ get_or bytes i 0 → v ≡ more f h u
+    → hash_from f v (scalars_in (chars (drop (i + 1) inside))) ≡ hash_from f h (scalars_in (chars (drop i inside)))
+hash_over f inside bytes i u h v e l k n q g = grind (arith, hash_plain)
 
-pub hash_end : (inside : List ℕ) (i : ℕ) (h : Hashing) → length inside ≤ i → hash_from h (scalars_in (chars (drop i inside))) ≡ finished h
-hash_end inside i h l = ap (hash_from h) (nothing inside i l)
+pub hash_end : (f : ℕ) (inside : List ℕ) (i : ℕ) (h : Hashing) → length inside ≤ i → hash_from f h (scalars_in (chars (drop i inside))) ≡ finished f h
+hash_end f inside i h l = ap (hash_from f h) (nothing inside i l)

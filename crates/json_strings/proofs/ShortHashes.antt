@@ -7,7 +7,7 @@ use Rattle.std.specs.Int.{from_be_bytes}
 use Rattle.std.proofs.lemmas.List.{drop-drop, take-take}
 use Rattle.std.proofs.Math.Seq.{take-add}
 use Rattle.json_strings.specs.Spelling.{scalars_in}
-use Rattle.json_strings.specs.Hashes.{joined, lengthened, more, hash_from, after_words, hash_of, digits, IsPlainWord}
+use Rattle.json_strings.specs.Hashes.{chained, lengthened, more, hash_from, after_words, hash_of, digits, IsPlainWord}
 use Rattle.json_strings.specs.declared.hashes.Hashing.{Hashing}
 use Rattle.json_strings.proofs.PlainBytes.{plain_first}
 
@@ -18,34 +18,33 @@ digits_grow (b ∷ bs) h = let g = digits_grow bs (h * 256 + b) in omega (arith,
 abbrev state : (hash word count : ℕ) → Hashing
 state h w n = record { hash = h; word = w; count = n }
 
-more_small : (h w n c : ℕ) → n < 8 → w < 0x100000000000000 → c < 256 → more (state h w n) c ≡ state h (w * 256 + c) (n + 1)
+more_small : (f h w n c : ℕ) → n < 8 → w < 0x100000000000000 → c < 128 → more f (state h w n) c ≡ state h (w * 256 + c) (n + 1)
 unfolding lengthened
-more_small h w n c few l k = grind arith
+more_small f h w n c few l k = grind arith
 
 -- bytes that have room in the word
-bytes_added : (bs r : List ℕ) (h w n : ℕ) → ((k : ℕ) → k < length bs → get_or bs k 0 < 256) → digits w bs < 0x10000000000000000 → n + length bs ≤ 8
-    → hash_from (state h w n) (bs ++ r) ≡ hash_from (state h (digits w bs) (n + length bs)) r
-bytes_added [] r h w n small fits few = let e : n ≡ n + 0 = omega arith in ap (λ m. hash_from (state h w m) r) e
-bytes_added (b ∷ bs) r h w n small fits few = let b_small : b < 256 = small 0 (omega arith) in
-    let e = more_small h w n b (omega arith) (omega (arith, digits_grow bs (w * 256 + b), fits)) b_small in
-    grind (arith, bytes_added bs r h (w * 256 + b) (n + 1) (λ k l. small (suc k) (omega arith)) fits (omega arith))
+bytes_added : (f : ℕ) (bs r : List ℕ) (h w n : ℕ) → ((k : ℕ) → k < length bs → get_or bs k 0 < 128) → digits w bs < 0x10000000000000000 → n + length bs ≤ 8
+    → hash_from f (state h w n) (bs ++ r) ≡ hash_from f (state h (digits w bs) (n + length bs)) r
+bytes_added f [] r h w n small fits few = let e : n ≡ n + 0 = omega arith in ap (λ m. hash_from f (state h w m) r) e
+bytes_added f (b ∷ bs) r h w n small fits few = let b_small : b < 128 = small 0 (omega arith) in
+    let e = more_small f h w n b (omega arith) (omega (arith, digits_grow bs (w * 256 + b), fits)) b_small in
+    grind (arith, bytes_added f bs r h (w * 256 + b) (n + 1) (λ k l. small (suc k) (omega arith)) fits (omega arith))
 
 -- a whole word
-word_full : (h w : ℕ) (r : List ℕ) → hash_from (state h w 8) r ≡ hash_from (after_words (joined h w)) r
-unfolding joined
-word_full h w [] = refl
-word_full h w (c ∷ cs) = refl
+word_full : (f h w : ℕ) (r : List ℕ) → hash_from f (state h w 8) r ≡ hash_from f (after_words (chained f h w)) r
+word_full f h w [] = refl
+word_full f h w (c ∷ cs) = refl
 
 -- a last word
-no_more : (h w n : ℕ) → 0 < n → hash_from (state h w n) [] ≡ joined h w
-no_more h w n l = let t : eqb n 0 ≡ false = grind (arith, nat_tests) in rw t refl
+no_more : (f h w n : ℕ) → 0 < n → hash_from f (state h w n) [] ≡ chained f h w
+no_more f h w n l = let t : eqb n 0 ≡ false = grind (arith, nat_tests) in rw t refl
 
-word_last : (h : ℕ) (bs : List ℕ) → ((k : ℕ) → k < length bs → get_or bs k 0 < 256) → digits 0 bs < 0x10000000000000000 → 1 ≤ length bs → length bs ≤ 8
-    → hash_from (after_words h) bs ≡ joined h (digits 0 bs)
-word_last h [] small fits some few = absurd (omega arith)
-word_last h (b ∷ bs) small fits some few =
-    ap (hash_from (after_words h)) (sym (append-nil (b ∷ bs))) ∙ bytes_added (b ∷ bs) [] h 0 0 small fits (omega arith)
-    ∙ no_more h (digits 0 (b ∷ bs)) (0 + length (b ∷ bs)) (omega arith)
+word_last : (f h : ℕ) (bs : List ℕ) → ((k : ℕ) → k < length bs → get_or bs k 0 < 128) → digits 0 bs < 0x10000000000000000 → 1 ≤ length bs → length bs ≤ 8
+    → hash_from f (after_words h) bs ≡ chained f h (digits 0 bs)
+word_last f h [] small fits some few = absurd (omega arith)
+word_last f h (b ∷ bs) small fits some few =
+    ap (hash_from f (after_words h)) (sym (append-nil (b ∷ bs))) ∙ bytes_added f (b ∷ bs) [] h 0 0 small fits (omega arith)
+    ∙ no_more f h (digits 0 (b ∷ bs)) (0 + length (b ∷ bs)) (omega arith)
 
 word_at : (a b c d e f g h : ℕ) → a < 256 → b < 256 → c < 256 → d < 256 → e < 256 → f < 256 → g < 256 → h < 256
     → (len : ℕ) → 1 ≤ len → len ≤ 8 → (from_be_bytes w64 (a ∷ b ∷ c ∷ d ∷ e ∷ f ∷ g ∷ h ∷ []) / 2 ^ (64 - 8 * len) ≡ digits 0 (take len (a ∷ b ∷ c ∷ d ∷ e ∷ f ∷ g ∷ h ∷ []))) × (digits 0 (take len (a ∷ b ∷ c ∷ d ∷ e ∷ f ∷ g ∷ h ∷ [])) < 0x10000000000000000)
@@ -80,38 +79,38 @@ module _ (text : List ℕ) (at len word : ℕ) (room : at + len ≤ length text)
   stand : (k : ℕ) → k < length bytes → (get_or bytes k 0 < 128) × (get_or bytes k 0 ≢ 92)
   stand k l = subst (λ x. (x < 128) × (x ≢ 92)) (sym (place k (omega (arith, size)))) (w.plain (at + k) (omega arith) (omega (arith, size)))
 
-  small : (k : ℕ) → k < length bytes → get_or bytes k 0 < 256
+  small : (k : ℕ) → k < length bytes → get_or bytes k 0 < 128
   small k l = let f = stand k l in omega (arith, f.0)
 
 -- a word, and what follows it
-pub word_passed : (text : List ℕ) (at n h word : ℕ) → 8 ≤ n → at + n ≤ length text → IsPlainWord text at 8 word
-    → hash_from (after_words h) (scalars_in (chars (take n (drop at text)))) ≡ hash_from (after_words (joined h word)) (scalars_in (chars (take (n - 8) (drop (at + 8) text))))
-word_passed text at n h word many room w =
-    let bs = take 8 (drop at text) in let r = take (n - 8) (drop (at + 8) text) in let f : n ≡ 8 + (n - 8) = omega arith in
-    let parted : take n (drop at text) ≡ bs ++ r = ap (λ m. take m (drop at text)) f ∙ take-add 8 (n - 8) (drop at text) ∙ ap (λ l. bs ++ take (n - 8) l) (drop-drop 8 at text) in
+pub word_passed : (f : ℕ) (text : List ℕ) (at n h word : ℕ) → 8 ≤ n → at + n ≤ length text → IsPlainWord text at 8 word
+    → hash_from f (after_words h) (scalars_in (chars (take n (drop at text)))) ≡ hash_from f (after_words (chained f h word)) (scalars_in (chars (take (n - 8) (drop (at + 8) text))))
+word_passed f text at n h word many room w =
+    let bs = take 8 (drop at text) in let r = take (n - 8) (drop (at + 8) text) in let m : n ≡ 8 + (n - 8) = omega arith in
+    let parted : take n (drop at text) ≡ bs ++ r = ap (λ m. take m (drop at text)) m ∙ take-add 8 (n - 8) (drop at text) ∙ ap (λ l. bs ++ take (n - 8) l) (drop-drop 8 at text) in
     let long : 0 + length bs ≡ 8 = omega (arith, size text at 8 word (omega arith) w) in
-    ap (λ l. hash_from (after_words h) (scalars_in (chars l))) parted
-    ∙ ap (hash_from (after_words h)) (plain_front bs r (stand text at 8 word (omega arith) w))
-    ∙ bytes_added bs (scalars_in (chars r)) h 0 0 (small text at 8 word (omega arith) w) w.fits (omega (arith, long))
-    ∙ ap (λ m. hash_from (state h (digits 0 bs) m) (scalars_in (chars r))) long
-    ∙ word_full h (digits 0 bs) (scalars_in (chars r))
-    ∙ ap (λ x. hash_from (after_words (joined h x)) (scalars_in (chars r))) (sym w.value)
+    ap (λ l. hash_from f (after_words h) (scalars_in (chars l))) parted
+    ∙ ap (hash_from f (after_words h)) (plain_front bs r (stand text at 8 word (omega arith) w))
+    ∙ bytes_added f bs (scalars_in (chars r)) h 0 0 (small text at 8 word (omega arith) w) w.fits (omega (arith, long))
+    ∙ ap (λ m. hash_from f (state h (digits 0 bs) m) (scalars_in (chars r))) long
+    ∙ word_full f h (digits 0 bs) (scalars_in (chars r))
+    ∙ ap (λ x. hash_from f (after_words (chained f h x)) (scalars_in (chars r))) (sym w.value)
 
 -- a word with nothing behind it
-pub word_ends : (text : List ℕ) (at len h word : ℕ) → 1 ≤ len → len ≤ 8 → at + len ≤ length text → IsPlainWord text at len word
-    → joined h word ≡ hash_from (after_words h) (scalars_in (chars (take len (drop at text))))
-word_ends text at len h word some few room w =
+pub word_ends : (f : ℕ) (text : List ℕ) (at len h word : ℕ) → 1 ≤ len → len ≤ 8 → at + len ≤ length text → IsPlainWord text at len word
+    → chained f h word ≡ hash_from f (after_words h) (scalars_in (chars (take len (drop at text))))
+word_ends f text at len h word some few room w =
     let bs = take len (drop at text) in let long = size text at len word room w in let same = plain_front bs [] (stand text at len word room w) in
     let all : scalars_in (chars bs) ≡ bs = ap (λ l. scalars_in (chars l)) (sym (append-nil bs)) ∙ same ∙ ap (λ l. bs ++ scalars_in l) chars-nil ∙ append-nil bs in
-    ap (joined h) w.value ∙ sym (word_last h bs (small text at len word room w) w.fits (omega (arith, long)) (omega (arith, long))) ∙ ap (hash_from (after_words h)) (sym all)
+    ap (chained f h) w.value ∙ sym (word_last f h bs (small text at len word room w) w.fits (omega (arith, long)) (omega (arith, long))) ∙ ap (hash_from f (after_words h)) (sym all)
 
-joined_first : (word : ℕ) → word < 2 ^ 64 → word ≡ joined 0 word
-unfolding joined
-joined_first word l = omega arith
+chained_first : (f word : ℕ) → word < 2 ^ 64 → word ≡ chained f 0 word
+unfolding chained
+chained_first f word l = omega arith
 
-pub word_hashed : (text : List ℕ) (at len word : ℕ) → 1 ≤ len → len ≤ 8 → at + len ≤ length text → IsPlainWord text at len word
-    → word ≡ hash_of (scalars_in (chars (take len (drop at text))))
-word_hashed text at len word some few room w = joined_first word (subst (λ x. x < 2 ^ 64) (sym w.value) w.fits) ∙ word_ends text at len 0 word some few room w
+pub word_hashed : (f : ℕ) (text : List ℕ) (at len word : ℕ) → 1 ≤ len → len ≤ 8 → at + len ≤ length text → IsPlainWord text at len word
+    → word ≡ hash_of f (scalars_in (chars (take len (drop at text))))
+word_hashed f text at len word some few room w = chained_first f word (subst (λ x. x < 2 ^ 64) (sym w.value) w.fits) ∙ word_ends f text at len 0 word some few room w
 
 -- a word of bytes, whatever they are
 word_value : (text : List ℕ) (at len word : ℕ) → at + 8 ≤ length text → 1 ≤ len → len ≤ 8 → ((k : ℕ) → Fits w8 (get_or text k 0))

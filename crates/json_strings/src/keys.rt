@@ -8,10 +8,9 @@ ghost use Rattle.std.specs.Str.{chars};
 ghost use Rattle.std.specs.Cow.{cow_str_bytes};
 ghost use Rattle.json_text.specs.Limits.{bytes_at};
 ghost use Rattle.json_strings.specs.Spelling.{scalars_in, unquoted as inside, IsQuoted};
-ghost use Rattle.json_strings.specs.Keys.{name_hash, name_cmp, key_name};
+ghost use Rattle.json_strings.specs.Keys.{name_cmp, key_name};
 ghost use Rattle.json_strings.specs.KeyOrder.{keys_equiv, keys_total, keys_tie, keys_po};
 
-use crate::hashes::{hash, mixed};
 use crate::scalars::{Scalars, unquoted};
 use json_text::Extent;
 use std::alloc::{AllocError, Global};
@@ -22,23 +21,22 @@ use std::marker::Model;
 /// A member, seen as the number of its value and what its name means.
 #[derive(Drop)]
 pub struct Key<'a> {
-    hash: u32,
     number: u32,
     // decoded once, since a sort compares it often
     name: CowStr<'a>,
 }
 
 impl<'a> Model for Key<'a> {
-    ghost use Rattle.std.specs.Prelude.{◌≡◌, IsUtf8};
+    ghost use Rattle.std.specs.Prelude.{IsUtf8};
     ghost use Rattle.std.specs.Str.{chars};
     ghost use Rattle.std.specs.Cow.{cow_str_bytes};
-    ghost use Rattle.json_strings.specs.Keys.{Keyed, name_hash};
+    ghost use Rattle.json_strings.specs.Keys.{Keyed};
 
     ghost Value = { Keyed };
 
     ghost view = { λ k. record { number = k.number; name = chars (cow_str_bytes k.name) } };
 
-    ghost invariant = { λ k. IsUtf8 (cow_str_bytes k.name) × (k.hash ≡ name_hash (chars (cow_str_bytes k.name))) };
+    ghost invariant = { λ k. IsUtf8 (cow_str_bytes k.name) };
 }
 
 // What characters mean, as a text of its own only where one of them is escaped.
@@ -69,7 +67,6 @@ impl<'a> Key<'a> {
         ensures name { IfOk result (λ key. key.name ≡ scalars_in (chars (inside (bytes_at text.now name)))) }
     {
         Ok(Key {
-            hash: mixed(hash(text, name)),
             number,
             name: meaning(alloc, unquoted(text, name))?,
         })
@@ -81,13 +78,6 @@ impl<'a> Key<'a> {
     {
         self.number
     }
-
-    /// The hash of its name.
-    pub fn hash(&self) -> u32
-        ensures { result ≡ name_hash self.now.name }
-    {
-        self.hash
-    }
 }
 
 impl<'a> PartialEq for Key<'a> {
@@ -97,7 +87,7 @@ impl<'a> PartialEq for Key<'a> {
 
     #[tactic(auto, using(crate::proofs::PlainNames::spelt_same))]
     fn eq(&self, other: &Key<'a>) -> bool {
-        self.hash == other.hash && self.name.as_str() == other.name.as_str()
+        self.name.as_str() == other.name.as_str()
     }
 }
 
@@ -126,10 +116,6 @@ impl<'a> Ord for Key<'a> {
 
     #[tactic(auto, using(crate::proofs::PlainNames::spelt_order))]
     fn cmp(&self, other: &Key<'a>) -> Ordering {
-        match self.hash.cmp(&other.hash) {
-            Ordering::Equal => self.name.as_str().cmp(other.name.as_str()),
-            Ordering::Less => Ordering::Less,
-            Ordering::Greater => Ordering::Greater,
-        }
+        self.name.as_str().cmp(other.name.as_str())
     }
 }

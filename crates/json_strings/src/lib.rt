@@ -15,7 +15,7 @@ mod scan;
 mod sought;
 
 pub use extents::{bytes_at, part_at};
-pub use hashes::{bytes_word, hash, mixed};
+pub use hashes::{FACTOR, bytes_word, hash, mixed, spread};
 pub use keys::Key;
 pub use plain::{Words, is_meant_by, is_meant_plainly, words_of};
 pub use scalars::{Scalars, count_of, unquoted};

@@ -8,7 +8,7 @@ ghost use Rattle.json_text.specs.Limits.{bytes_at};
 ghost use Rattle.json_strings.specs.Spelling.{scalars_in, unquoted as inside, IsQuoted};
 ghost use Rattle.json_strings.specs.Keys.{name_hash as hash_of_name, sought_name};
 
-use crate::hashes::{long_hash, meant_hash, mixed};
+use crate::hashes::{long_hash, meant_hash, spread};
 use crate::names::Name;
 use crate::plain::is_meant_by;
 use crate::scalars::{Scalars, unquoted};
@@ -25,12 +25,12 @@ pub enum Sought<'a> {
 }
 
 /// The hash of what a name means.
-pub fn sought_hash(sought: Sought<'_>) -> u32
-    ensures { result ≡ hash_of_name (sought_name sought.entry) }
+pub fn sought_hash(sought: Sought<'_>, factor: u64) -> u32
+    ensures { result ≡ hash_of_name factor (sought_name sought.entry) }
 {
     match sought {
-        Sought::Spelt(name) => mixed(long_hash(name)),
-        Sought::Meant(name) => mixed(meant_hash(name)),
+        Sought::Spelt(name) => spread(long_hash(name, factor), factor),
+        Sought::Meant(name) => spread(meant_hash(name, factor), factor),
     }
 }
 

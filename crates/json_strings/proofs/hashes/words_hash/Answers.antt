@@ -8,7 +8,7 @@ loop-k-preserved c = let text = c.args.text.now in let k = c.loop-k.k in let end
     grind (
       arith,
       chars (take (end - (k + 8)) (drop (k + 8) text)),
-      word_passed text k (end - k) c.loop-k.hash c.in-Some.word (omega arith) (omega arith) c.in-Some.ensures,
+      word_passed c.args.factor text k (end - k) c.loop-k.hash c.in-Some.word (omega arith) (omega arith) c.in-Some.ensures,
     )
 
 pub returns-in-Some-plain_word : goal.returns-in-Some-plain_word

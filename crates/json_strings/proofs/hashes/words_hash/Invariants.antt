@@ -7,7 +7,7 @@ abbrev pub invariant-loop-k : goal.invariant-loop-k
 invariant-loop-k l = record {
   from : l.at ≤ l.k;
   to : l.k < l.end;
-  same : hash_from (after_words l.hash) (scalars_in (chars (take (l.end - l.k) (drop l.k l.text)))) ≡ hash_of (scalars_in (chars (take l.len (drop l.at l.text))));
+  same : hash_from l.factor (after_words l.hash) (scalars_in (chars (take (l.end - l.k) (drop l.k l.text)))) ≡ hash_of l.factor (scalars_in (chars (take l.len (drop l.at l.text))));
 }
 
 abbrev pub decreases-loop-k : goal.decreases-loop-k
