@@ -1,21 +1,21 @@
--- Members as words in the order of their hashes, no two of which meet.
-use Rattle.json_text.proofs.Names.{◌≡◌, ℕ, ◌+◌, ◌*◌, ◌^◌, ◌<◌, ◌≤◌, false, Bool, ◌||◌, cond, List, [], ◌∷◌, length, map, get_or, refl, sym, ap, ◌∙◌}
-use Rattle.json_text.proofs.Names.{subst, arith, nat_eq, nat_lt, nat_tests, length-map, get_or_default, get_or-map, All-from_recursion}
-use Rattle.json_text.proofs.Names.{recursion_from_All, All-permutation, All, AllByRecursion, IsPermutation, IsSorted, slice_cmp, nat_cmp, on, Members}
-use Rattle.json_text.proofs.Names.{NoMember, Member, size, IsObject, repeats, meanings, repeats_by, repeats_next_by}
+-- Members as words in the order of their hashes, and of their names where hashes meet.
+use Rattle.json_text.proofs.Names.{◌≡◌, ℕ, ◌+◌, ◌*◌, ◌^◌, ◌<◌, false, Bool, ◌||◌, List, [], ◌∷◌, length, map, get_or, refl, sym, ap, ◌∙◌, list_any}
+use Rattle.json_text.proofs.Names.{subst, arith, nat_eq, pointwise, All-from_recursion, recursion_from_All, All-permutation, All, AllByRecursion}
+use Rattle.json_text.proofs.Names.{IsPermutation, IsSorted, nat_cmp, on, Members, IsObject, repeats, meanings, repeats_by, repeats_next_by}
 use Rattle.std.proofs.lemmas.Nat.{mod-mul-add, div-mul-add}
 use Rattle.std.proofs.lemmas.List.Sorted.{IsPermutation-map}
-use Rattle.std.specs.Cmp.{nat_cmp_total, nat_eq_equiv, unsigned_ties}
-use Rattle.std.specs.Ordering.{is_lt, ordering_then}
-use Rattle.std.specs.declared.cmp.Ordering.TheVariants.{Less, Equal, Greater}
-use Rattle.json_text.specs.Meaning.{meaning}
-use Rattle.json_strings.specs.Keys.{Keyed, key_number, key_hash, name_cmp, name_hash}
-use Rattle.name_order.specs.Ordered.{keyed, word_of, name_in, IsNamed, IsOrderOf}
+use Rattle.std.specs.Cmp.{IsTotalOrder, on_total}
+use Rattle.std.specs.Cmp.Lexicographic.{nat_list_eq_equiv}
+use Rattle.std.specs.Ordering.{is_lt, ordering_then, eq_by_cmp}
+use Rattle.std.specs.declared.cmp.Ordering.{Ordering}
+use Rattle.json_strings.specs.Keys.{Keyed, key_name, key_number, key_hash, name_cmp, hashed_cmp, name_hash}
+use Rattle.json_strings.specs.KeyOrder.{hashed_total, hashed_tie}
+use Rattle.name_order.specs.Ordered.{keyed, word_of, word_cmp, name_at, name_in, IsNamed, IsOrderOf}
 use Rattle.name_order.specs.Orders.{high_half, low_half}
 use Rattle.json_text.specs.declared.tape.Entry.{Entry}
-use Rattle.json_text.proofs.Repeats.{strict, sorted_repeats, hashes_apart}
-use Rattle.name_order.proofs.KeysLeft.{IsGood, all_good}
-use Rattle.name_order.proofs.Runs.{in_order, no_key}
+use Rattle.json_text.proofs.Repeats.{strict, sorted_repeats}
+use Rattle.name_order.proofs.KeysLeft.{IsGood, all_good, repeats_keyed}
+use Rattle.name_order.proofs.Runs.{in_order}
 
 pub low_is : (hash number : ℕ) → number < 4294967296 → low_half (hash * 4294967296 + number) ≡ number
 unfolding low_half
@@ -25,105 +25,75 @@ pub high_is : (hash number : ℕ) → number < 4294967296 → high_half (hash * 
 unfolding high_half
 high_is hash number h = div-mul-add hash 4294967296 number h
 
-high_rises : (a b : ℕ) → a ≤ b → high_half a ≤ high_half b
-unfolding high_half
-high_rises a b h = omega arith
+abbrev same_key : Keyed → Keyed → Bool
+same_key = on key_name (pointwise nat_eq)
 
--- what is not less
-less_is : (t u : Bool) → is_lt (cond t Less (cond u Equal Greater)) ≡ t
-less_is t u = grind arith
+module _ (factor : ℕ) (text : List ℕ) (tape : List Entry) (short : length tape < 2 ^ 31) where
+  abbrev same_word : ℕ → ℕ → Bool
+  same_word = on (name_in text tape) (pointwise nat_eq)
 
-at_least : (a b : ℕ) → is_lt (nat_cmp a b) ≡ false → b ≤ a
-at_least a b h = let e : nat_lt a b ≡ false = sym (less_is (nat_lt a b) (nat_eq a b)) ∙ h in grind (arith, nat_tests)
+  abbrev by_name : ℕ → ℕ → Ordering
+  by_name = on (name_in text tape) (hashed_cmp factor)
 
-not_less : (a b : ℕ) → b ≤ a → is_lt (nat_cmp a b) ≡ false
-not_less a b h = less_is (nat_lt a b) (nat_eq a b) ∙ grind (arith, nat_tests)
-
-highs_sorted : (ys : List ℕ) → IsSorted nat_cmp ys → IsSorted nat_cmp (map high_half ys)
-highs_sorted ys s k d z h = let long = length-map ys high_half in let a = at k (omega arith) in let b = at (k + 1) h in
-    let r = high_rises (get_or ys k 0) (get_or ys (k + 1) 0) (at_least (get_or ys (k + 1) 0) (get_or ys k 0) (s k 0 z (omega arith))) in
-    not_less (get_or (map high_half ys) (k + 1) d) (get_or (map high_half ys) k d) (omega arith)
-  where
-    at : (i : ℕ) → i < length (map high_half ys) → get_or (map high_half ys) i d ≡ high_half (get_or ys i 0)
-    at i l = get_or_default (map high_half ys) i d 0 l ∙ get_or-map high_half ys i 0 0 (let long = length-map ys high_half in omega arith)
-
-next_map : (f : ℕ → ℕ) (ys : List ℕ) → repeats_next_by (on f nat_eq) ys ≡ repeats_next_by nat_eq (map f ys)
-next_map f (x ∷ y ∷ ys) = ap (λ b. nat_eq (f x) (f y) || b) (next_map f (y ∷ ys))
-next_map f _ = refl
-
-hashes_named : (ms : Members) (k : ℕ) → map key_hash (keyed ms k) ≡ map name_hash (meanings ms)
-hashes_named NoMember k = refl
-hashes_named (Member n t ms) k = ap (λ l. name_hash (meaning n.characters) ∷ l) (hashes_named ms (k + size t))
-
-module _ (text : List ℕ) (tape : List Entry) (short : length tape < 2 ^ 31) where
-  good_word : (x : Keyed) → IsGood text tape x → IsNamed text tape (word_of x)
+  good_word : (x : Keyed) → IsGood text tape x → IsNamed factor text tape (word_of factor x)
   good_word x g = grind (arith, low_is, high_is)
 
-  good_words : (ks : List Keyed) → AllByRecursion (IsGood text tape) ks → AllByRecursion (IsNamed text tape) (map word_of ks)
+  good_words : (ks : List Keyed) → AllByRecursion (IsGood text tape) ks → AllByRecursion (IsNamed factor text tape) (map (word_of factor) ks)
   good_words [] h = tt
   good_words (x ∷ ks) h = (good_word x h.0, good_words ks h.1)
 
-  lows : (ks : List Keyed) → AllByRecursion (IsGood text tape) ks → map low_half (map word_of ks) ≡ map key_number ks
+  number_is : (x : Keyed) → IsGood text tape x → low_half (word_of factor x) ≡ x.number
+  number_is x g = low_is (key_hash factor x) x.number (let i = g.inside in omega arith)
+
+  lows : (ks : List Keyed) → AllByRecursion (IsGood text tape) ks → map low_half (map (word_of factor) ks) ≡ map key_number ks
   lows [] h = refl
-  lows (x ∷ ks) h = let i = h.0.inside in ap (λ k. k ∷ map low_half (map word_of ks)) (low_is (key_hash x) x.number (omega arith)) ∙ ap (λ l. x.number ∷ l) (lows ks h.1)
+  lows (x ∷ ks) h = ap (λ k. k ∷ map low_half (map (word_of factor) ks)) (number_is x h.0) ∙ ap (λ l. x.number ∷ l) (lows ks h.1)
 
-  highs : (ks : List Keyed) → AllByRecursion (IsGood text tape) ks → map high_half (map word_of ks) ≡ map key_hash ks
-  highs [] h = refl
-  highs (x ∷ ks) h = let i = h.0.inside in ap (λ k. k ∷ map high_half (map word_of ks)) (high_is (key_hash x) x.number (omega arith)) ∙ ap (λ l. key_hash x ∷ l) (highs ks h.1)
+  name_is : (x : Keyed) → IsGood text tape x → name_in text tape (word_of factor x) ≡ x.name
+  name_is x g = ap (name_at text tape) (number_is x g) ∙ g.named
 
-  module _ (n : ℕ) (ys : List ℕ) (moved : (ms : Members) → IsObject text tape n ms → IsPermutation (map word_of (keyed ms (n + 1))) ys) (sorted : IsSorted nat_cmp ys) (apart : repeats_next_by (on high_half nat_eq) ys ≡ false) where
-    abbrev words : Members → List ℕ
-    words ms = map word_of (keyed ms (n + 1))
+  any_word : (x : Keyed) → IsGood text tape x → (ks : List Keyed) → AllByRecursion (IsGood text tape) ks
+      → list_any (λ y. same_word y (word_of factor x)) (map (word_of factor) ks) ≡ list_any (λ y. same_key y x) ks
+  any_word x g [] h = refl
+  any_word x g (y ∷ ks) h =
+      ap (λ n. pointwise nat_eq n (name_in text tape (word_of factor x)) || list_any (λ z. same_word z (word_of factor x)) (map (word_of factor) ks)) (name_is y h.0)
+      ∙ ap (λ n. pointwise nat_eq y.name n || list_any (λ z. same_word z (word_of factor x)) (map (word_of factor) ks)) (name_is x g)
+      ∙ ap (λ b. same_key y x || b) (any_word x g ks h.1)
 
+  -- names come again in the words where they do among the members
+  repeats_words : (ks : List Keyed) → AllByRecursion (IsGood text tape) ks → repeats_by same_word (map (word_of factor) ks) ≡ repeats_by same_key ks
+  repeats_words [] h = refl
+  repeats_words (x ∷ ks) h = ap (λ b. b || repeats_by same_word (map (word_of factor) ks)) (any_word x h.0 ks h.1) ∙ ap (λ b. list_any (λ y. same_key y x) ks || b) (repeats_words ks h.1)
+
+  module _ (n : ℕ) (ys : List ℕ) (moved : (ms : Members) → IsObject text tape n ms → IsPermutation (map (word_of factor) (keyed ms (n + 1))) ys) where
     good_keys : (ms : Members) → IsObject text tape n ms → AllByRecursion (IsGood text tape) (keyed ms (n + 1))
     good_keys ms o = recursion_from_All (IsGood text tape) (keyed ms (n + 1)) (all_good text tape n ms o)
 
-    highs_apart : repeats_next_by nat_eq (map high_half ys) ≡ false
-    highs_apart = sym (next_map high_half ys) ∙ apart
+    pub good : (ms : Members) → IsObject text tape n ms → All (IsNamed factor text tape) ys
+    good ms o = All-permutation (IsNamed factor text tape) (map (word_of factor) (keyed ms (n + 1))) ys (moved ms o) (All-from_recursion (IsNamed factor text tape) (map (word_of factor) (keyed ms (n + 1))) (good_words (keyed ms (n + 1)) (good_keys ms o)))
 
-    pub none_again : (ms : Members) → IsObject text tape n ms → false ≡ repeats (meanings ms)
-    none_again ms o =
-        let again = sorted_repeats nat_eq nat_cmp unsigned_ties (λ x y. nat_eq_equiv.symm x y) nat_cmp_total (map high_half (words ms)) (map high_half ys) (IsPermutation-map high_half (words ms) ys (moved ms o)) (highs_sorted ys sorted) in
-        let all : map high_half (words ms) ≡ map name_hash (meanings ms) = highs (keyed ms (n + 1)) (good_keys ms o) ∙ hashes_named ms (n + 1) in
-        sym (hashes_apart name_hash (meanings ms) (sym (ap (repeats_by nat_eq) all) ∙ sym again ∙ highs_apart))
+    module _ (sorted : IsSorted (word_cmp text tape) ys) (ms : Members) (o : IsObject text tape n ms) where
+      ties : (x y : ℕ) → same_word x y ≡ eq_by_cmp by_name x y
+      ties x y = hashed_tie factor (name_in text tape x) (name_in text tape y)
 
-    good : (ms : Members) → IsObject text tape n ms → All (IsNamed text tape) ys
-    good ms o =
-        All-permutation (IsNamed text tape) (words ms) ys (moved ms o) (All-from_recursion (IsNamed text tape) (words ms) (good_words (keyed ms (n + 1)) (good_keys ms o)))
+      symm : (x y : ℕ) → same_word x y ≡ same_word y x
+      symm x y = nat_list_eq_equiv.symm (name_in text tape x) (name_in text tape y)
 
-    pub ordered : (ms : Members) → IsObject text tape n ms → IsOrderOf text tape n ys
-    ordered ms o = record {
-      named = record {
-        each = good ms o;
-        rising = λ j k h m.
-            (ap (λ r. ordering_then r (slice_cmp nat_cmp (named j) (named k)))
-            (ap (λ x. nat_cmp x (name_hash (named k))) (sym (hash_is j (omega arith))) ∙ ap (nat_cmp (get_or (map high_half ys) j 0)) (sym (hash_is k m))
-            ∙ in_order nat_cmp (map high_half ys) 0 (strict nat_eq nat_cmp unsigned_ties (λ x y. nat_eq_equiv.symm x y) nat_cmp_total 0 (map high_half ys) (highs_sorted ys sorted) highs_apart) j k h (let a = length-map ys high_half in omega arith)));
-      };
-      all = λ ms' o'. subst (λ l. IsPermutation l (map low_half ys)) (lows (keyed ms' (n + 1)) (good_keys ms' o')) (IsPermutation-map low_half (words ms') ys (moved ms' o'));
-    } where
-      named : ℕ → List ℕ
-      named k = name_in text tape (get_or ys k 0)
+      total : IsTotalOrder by_name
+      total = on_total (name_in text tape) (hashed_total factor)
 
-      hash_is : (k : ℕ) → k < length ys → get_or (map high_half ys) k 0 ≡ name_hash (named k)
-      hash_is k h = get_or-map high_half ys k 0 0 h ∙ (good ms o k 0 h).hashed
+      in_names : IsSorted by_name ys
+      in_names k d z h =
+          let a = good ms o (k + 1) d h in let b = good ms o k d (omega arith) in let names = name_cmp (name_in text tape (get_or ys (k + 1) d)) (name_in text tape (get_or ys k d)) in
+          ap (λ x. is_lt (ordering_then (nat_cmp x (name_hash factor (name_in text tape (get_or ys k d)))) names)) (sym a.hashed)
+          ∙ ap (λ x. is_lt (ordering_then (nat_cmp (high_half (get_or ys (k + 1) d)) x) names)) (sym b.hashed) ∙ sorted k d z h
 
-  -- the words of keys in the order of their names
-  module _ (n : ℕ) (ys : List Keyed) (moved : (ms : Members) → IsObject text tape n ms → IsPermutation (keyed ms (n + 1)) ys) (good : All (IsGood text tape) ys)
-      (apart : (j k : ℕ) → j < k → k < length ys → name_cmp (get_or ys j no_key).name (get_or ys k no_key).name ≡ Less) where
-    every : AllByRecursion (IsGood text tape) ys
-    every = recursion_from_All (IsGood text tape) ys good
+      pub found : repeats_next_by same_word ys ≡ repeats (meanings ms)
+      found = sorted_repeats same_word by_name ties symm total (map (word_of factor) (keyed ms (n + 1))) ys (moved ms o) in_names
+          ∙ repeats_words (keyed ms (n + 1)) (good_keys ms o) ∙ repeats_keyed (pointwise nat_eq) ms (n + 1)
 
-    name_is : (k : ℕ) → k < length ys → name_in text tape (get_or (map word_of ys) k 0) ≡ (get_or ys k no_key).name
-    name_is k l = grind (arith, no_key, good, get_or-map, low_is)
-
-    pub ordered_keys : IsOrderOf text tape n (map word_of ys)
-    ordered_keys = record {
-      named = record {
-        each = All-from_recursion (IsNamed text tape) (map word_of ys) (good_words ys every);
-        rising = λ j k h m.
-            (let l : k < length ys = (let e = length-map ys word_of in omega arith) in let i : j < length ys = omega arith in
-            ap (λ x. name_cmp x (name_in text tape (get_or (map word_of ys) k 0))) (name_is j i) ∙ ap (name_cmp (get_or ys j no_key).name) (name_is k l) ∙ apart j k h l);
-      };
-      all = λ ms o. subst (IsPermutation (map key_number (keyed ms (n + 1)))) (sym (lows ys every)) (IsPermutation-map key_number (keyed ms (n + 1)) ys (moved ms o));
-    }
+      pub ordered : repeats_next_by same_word ys ≡ false → IsOrderOf factor text tape n ys
+      ordered none = record {
+        named = record { each = good ms o; rising = in_order by_name ys 0 (strict same_word by_name ties symm total 0 ys in_names none) };
+        all = λ ms' o'. subst (λ l. IsPermutation l (map low_half ys)) (lows (keyed ms' (n + 1)) (good_keys ms' o')) (IsPermutation-map low_half (map (word_of factor) (keyed ms' (n + 1))) ys (moved ms' o'));
+      }

@@ -4,5 +4,6 @@ pub mod TwinNames
 pub mod Halving
 pub mod KeysLeft
 pub mod HashedWords
+pub mod SortedRuns
 pub mod Runs
 pub mod OrderWords

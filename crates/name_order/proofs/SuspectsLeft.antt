@@ -2,15 +2,16 @@
 use Rattle.json_text.proofs.Names.{◌≡◌, ℕ, ◌+◌, ◌<◌, ◌≤◌, inl, inr, false, List, [], length, get_or, refl, sym, ◌∙◌, subst, arith, Contains}
 use Rattle.json_text.proofs.Names.{IsPermutation, IsSorted, nat_cmp, cases_lt, get_or_default, Members, IsJson, StandsForAll, repeats, meanings}
 use Rattle.json_text.proofs.Names.{IsObject, IsWide, AreSuspects, entry_in, nothing_there}
-use Rattle.name_order.proofs.Names.{members_in, AreKept, Order, Entry}
+use Rattle.name_order.proofs.Names.{members_in, AreKept, Entry}
+use Rattle.name_order.specs.Orders.{Kept}
 use Rattle.std.proofs.lemmas.List.Sorted.{Contains-permutation, IsNonDecreasingBy-from_sort}
 use Rattle.name_order.proofs.TwinNames.{NoneBelow, too_few}
 use Rattle.tape_cells.proofs.WideObjects.{not_wide_by}
 use Rattle.name_order.proofs.Runs.{few_members}
 
 -- below the first entry nothing is kept
-pub kept_none : (text : List ℕ) (tape : List Entry) (orders : List Order) → orders ≡ [] → AreKept text tape 0 orders
-kept_none text tape orders e = subst (AreKept text tape 0) (sym e) (record { each = λ i d h. absurd (omega arith); all = λ n h w. absurd (omega arith) })
+pub kept_none : (factor : ℕ) (text : List ℕ) (tape : List Entry) (kept : Kept) → kept ≡ record { factor = factor; orders = [] } → AreKept text tape 0 kept
+kept_none factor text tape kept e = subst (AreKept text tape 0) (sym e) (record { each = λ i d h. absurd (omega arith); all = λ n h w. absurd (omega arith) })
 
 module _ (text : List ℕ) (tape : List Entry) where
   -- from the next one on, of the objects that are not among those from place i on none is wide, and none has two names that mean the same
@@ -58,8 +59,8 @@ module _ (text : List ℕ) (tape : List Entry) where
       none_on before n ms l o = elim (cases_lt n next) [ inl g ↦ before n ms g o | inr g ↦ left.apart n ms g (below n l) o ]
 
       -- and none of them keeps the order of its members
-      pub kept_on : (orders : List Order) → AreKept text tape next orders → AreKept text tape to orders
-      kept_on orders k = grind (arith, below)
+      pub kept_on : (kept : Kept) → AreKept text tape next kept → AreKept text tape to kept
+      kept_on kept k = grind (arith, below)
 
 -- what is sorted rises
 pub later_is_more : (numbers : List ℕ) → IsSorted nat_cmp numbers → (i j : ℕ) → i ≤ j → j < length numbers → get_or numbers i 0 ≤ get_or numbers j 0

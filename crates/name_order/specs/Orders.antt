@@ -12,6 +12,11 @@ pub record Order : Type 0 where
 abbrev pub no_order : Order
 no_order = record { object = 0; words = [] }
 
+-- the orders of a document, and the factor of the hashes in their words
+pub record Kept : Type 0 where
+  pub factor : ℕ
+  pub orders : List Order
+
 -- so many from a place on
 abbrev pub part : ℕ → ℕ → List ℕ → List ℕ
 part start n xs = take n (drop start xs)

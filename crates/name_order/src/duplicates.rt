@@ -17,13 +17,14 @@ use std::alloc::{AllocError, Global};
 use tape_cells::Tape;
 
 /// The order of the members of wide objects; `None` where two names of one object mean the same. Of a text without lone
-/// surrogates, in which only objects with these numbers may have a repeated name.
+/// surrogates, in which only objects with these numbers may have a repeated name. Names are hashed by the factor.
 #[inline(never)]
 pub fn order_names(
     alloc: Global,
     text: &str,
     tape: &Tape,
     suspects: &[u32],
+    factor: u64,
 ) -> Result<Option<NameOrder>, AllocError>
     requires spelt { IsJson text.now }
     requires stands { StandsForAll text.now tape.now }
@@ -35,7 +36,7 @@ pub fn order_names(
     let mut sorted = Vec::from_slice(alloc, suspects)?;
     sorted.sort_unstable();
     let mut words = Vec::new(alloc);
-    let mut order = NameOrder::new(alloc, room_for(tape, &sorted))?;
+    let mut order = NameOrder::new(alloc, room_for(tape, &sorted), factor)?;
     // No object before it is left.
     let mut from = 0;
     for &n in &sorted {
@@ -91,6 +92,6 @@ fn repeats_at(
     if tape.members(n) > NARROW {
         order_members(alloc, text, tape, n, words, order)
     } else {
-        order_words(alloc, text, tape, n, words)
+        order_words(alloc, text, tape, n, order.factor(), words)
     }
 }

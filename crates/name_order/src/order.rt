@@ -1,19 +1,19 @@
 // The members of an object in the order of their names: whether one comes again, and, of wide objects, that a name is found by halving.
 
-ghost use Rattle.std.specs.Prelude.{◌≡◌, ℕ, ◌+◌, ◌<◌, ◌^◌, length, map, IfSome, OnOk, get_or, IfOk, IsTrue, ◌↔◌, None, false, nat_eq};
-ghost use Rattle.std.specs.List.{Contains};
+ghost use Rattle.std.specs.Prelude.{◌≡◌, ◌≢◌, ℕ, ◌+◌, ◌<◌, ◌≤◌, ◌^◌, ◌++◌, length, map, IfSome, OnOk, get_or, IfOk, IsTrue, ◌↔◌, None, false, nat_eq};
+ghost use Rattle.std.specs.List.{All, Contains};
 ghost use Rattle.std.specs.List.Sorted.{IsPermutation, IsSorted};
-ghost use Rattle.std.specs.Ordering.{nat_cmp, on};
+ghost use Rattle.std.specs.Ordering.{nat_cmp, on, ordering_then};
 ghost use Rattle.std.specs.Cmp.Lexicographic.{pointwise};
 ghost use Rattle.json_text.specs.Tree.{Members};
 ghost use Rattle.json_text.specs.Repeats.{repeats, repeats_next_by, meanings, IsObject};
-ghost use Rattle.name_order.specs.Ordered.{AreNamed, IsNamed, IsOrderOf, AreKept, members_of, name_at, name_in, keyed, word_of};
+ghost use Rattle.name_order.specs.Ordered.{AreNamed, IsNamed, IsOrderOf, AreKept, members_of, name_at, name_in, key_in, keyed, word_of, word_with, word_cmp};
 ghost use Rattle.name_order.specs.Orders.{high_half};
 ghost use Rattle.json_text.specs.Suspects.{IsWide};
-ghost use Rattle.json_strings.specs.Keys.{name_cmp, name_hash, key_name, sought_name};
+ghost use Rattle.json_strings.specs.Keys.{name_cmp, key_name, sought_name};
 
 use crate::orders::{NameOrder, hash_in, number_in, word};
-use json_strings::{Key, Sought, compare_sought, hash, mixed, sought_hash};
+use json_strings::{Key, Sought, compare_sought, hash, is_sought, sought_hash, spread, unquoted};
 use json_text::{Entry, Kind};
 use std::alloc::{AllocError, Global};
 use std::cmp::Ordering;
@@ -34,9 +34,8 @@ pub fn is_wide(entry: Entry) -> bool
 
 // How a member as a word compares with a name of this hash.
 fn compare_word(text: &str, tape: &Tape, member: u64, hash: u32, sought: Sought<'_>) -> Ordering
-    requires named { IsNamed text.now tape.now member }
-    requires hash { hash ≡ name_hash (sought_name sought) }
-    ensures { result ≡ name_cmp (name_in text.now tape.now member) (sought_name sought.entry) }
+    requires { (factor : ℕ) × IsNamed factor text.now tape.now member }
+    ensures { result ≡ ordering_then (nat_cmp (high_half member) hash) (name_cmp (name_in text.now tape.now member) (sought_name sought.entry)) }
 {
     match hash_in(member).cmp(&hash) {
         Ordering::Less => Ordering::Less,
@@ -48,13 +47,19 @@ fn compare_word(text: &str, tape: &Tape, member: u64, hash: u32, sought: Sought<
     }
 }
 
-/// The member of this name, by halving.
-pub fn member_in(text: &str, tape: &Tape, words: &[u64], sought: Sought<'_>) -> Option<u32>
-    requires { AreNamed text.now tape.now words.now }
+/// The member of this name, by halving, where the words have hashes by the factor.
+pub fn member_in(
+    text: &str,
+    tape: &Tape,
+    words: &[u64],
+    factor: u64,
+    sought: Sought<'_>,
+) -> Option<u32>
+    requires { AreNamed factor text.now tape.now words.now }
     ensures found { IfSome result (λ m. Contains (members_of words.now) m × (name_at text.now tape.now m ≡ sought_name sought.entry)) }
     ensures none { result ≡ None → (k : ℕ) → k < length (members_of words.now) → name_at text.now tape.now (get_or (members_of words.now) k 0) ≡ sought_name sought.entry → ⊥ }
 {
-    let hash = sought_hash(sought);
+    let hash = sought_hash(sought, factor);
     let mut low = 0;
     let mut high = words.len();
     while low < high {
@@ -69,111 +74,163 @@ pub fn member_in(text: &str, tape: &Tape, words: &[u64], sought: Sought<'_>) -> 
     None
 }
 
-// The members of the object with this number in the order of their names.
-fn sorted_keys<'a>(
-    alloc: Global,
-    text: &'a str,
+// The members of the object with this number as words in the order of their hashes, in place of the words that were there.
+fn sort_words(
+    text: &str,
     tape: &Tape,
     n: u32,
-) -> Result<Vec<Key<'a>>, AllocError>
+    factor: u64,
+    words: &mut Vec<u64>,
+) -> Result<(), AllocError>
     requires inside { n < length tape.now }
     requires object { (ms : Members) × IsObject text.now tape.now n ms }
     requires short { length tape.now < 2 ^ 31 }
-    ensures all { IfOk result (λ keys. (ms : Members) → IsObject text.now tape.now n ms → IsPermutation (keyed ms (n + 1)) keys.items) }
-    ensures sorted { IfOk result (λ keys. IsSorted (on key_name name_cmp) keys.items) }
-{
-    let mut keys = Vec::new(alloc);
-    let end = tape.entry(n).after;
-    let mut k = n + 1;
-    while k < end {
-        let entry = tape.entry(k);
-        keys.push(Key::new(alloc, k, text, entry.label)?)?;
-        k = entry.after;
-    }
-    keys.as_mut_slice().sort_unstable();
-    Ok(keys)
-}
-
-// Whether the name of one of the keys is that of the next one.
-fn names_meet(keys: &[Key<'_>]) -> bool
-    ensures { result ≡ repeats_next_by (on key_name (pointwise nat_eq)) keys.now }
-{
-    for i in 1..keys.len() {
-        if keys[i - 1] == keys[i] {
-            return true;
-        }
-    }
-    false
-}
-
-// The members of the object with this number as words in the order of their hashes, in place of the words that were there.
-fn sort_words(text: &str, tape: &Tape, n: u32, words: &mut Vec<u64>) -> Result<(), AllocError>
-    requires inside { n < length tape.now }
-    requires object { (ms : Members) × IsObject text.now tape.now n ms }
-    requires short { length tape.now < 2 ^ 31 }
-    ensures all { OnOk result ((ms : Members) → IsObject text.now tape.now n ms → IsPermutation (map word_of (keyed ms (n + 1))) words.new.items) }
+    ensures all { OnOk result ((ms : Members) → IsObject text.now tape.now n ms → IsPermutation (map (word_of factor) (keyed ms (n + 1))) words.new.items) }
     ensures sorted { OnOk result (IsSorted nat_cmp words.new.items) }
 {
     words.clear();
     let end = tape.after(n);
     let mut k = n + 1;
     while k < end {
-        push(words, word(mixed(hash(text, tape.label(k))), k))?;
+        let name = hash(text, tape.label(k), factor);
+        push(words, word(spread(name, factor), k))?;
         k = tape.after(k);
     }
     words.as_mut_slice().sort_unstable();
     Ok(())
 }
 
-// Whether the hash of one of the words is that of the next one.
-fn hashes_meet(words: &[u64]) -> bool
-    ensures { result ≡ repeats_next_by (on high_half nat_eq) words.now }
+// The end of the run of words of one hash that begins at a place.
+fn run_end(words: &[u64], from: usize) -> usize
+    requires { from < length words.now }
+    ensures within { (from < result) × (result ≤ length words.now) }
+    ensures alike { (k : ℕ) → from ≤ k → k < result → high_half (get_or words.now k 0) ≡ high_half (get_or words.now from 0) }
+    ensures ends { result < length words.now → high_half (get_or words.now result 0) ≢ high_half (get_or words.now from 0) }
+{
+    let hash = hash_in(words[from]);
+    for to in from + 1..words.len() {
+        if hash_in(words[to]) != hash {
+            return to;
+        }
+    }
+    words.len()
+}
+
+// The members in words in the order of what their names mean.
+fn sorted_keys<'a>(
+    alloc: Global,
+    text: &'a str,
+    tape: &Tape,
+    words: &[u64],
+) -> Result<Vec<Key<'a>>, AllocError>
+    requires { (factor : ℕ) × All (IsNamed factor text.now tape.now) words.now }
+    ensures all { IfOk result (λ keys. IsPermutation (map (key_in text.now tape.now) words.now) keys.items) }
+    ensures sorted { IfOk result (λ keys. IsSorted (on key_name name_cmp) keys.items) }
+{
+    let mut keys = Vec::new(alloc);
+    for member in words {
+        let k = number_in(*member);
+        keys.push(Key::new(alloc, k, text, tape.label(k))?)?;
+    }
+    keys.as_mut_slice().sort_unstable();
+    Ok(keys)
+}
+
+// Members as words with this hash, behind the words that were there.
+fn add_words(keys: &[Key<'_>], hash: u32, words: &mut Vec<u64>) -> Result<(), AllocError>
+    ensures { OnOk result (words.new.items ≡ words.old.items ++ map (word_with hash) keys.now) }
+{
+    for key in keys {
+        push(words, word(hash, key.number()))?;
+    }
+    Ok(())
+}
+
+// Sorts words of one hash by the names of their members.
+fn sort_run(
+    alloc: Global,
+    text: &str,
+    tape: &Tape,
+    hash: u32,
+    words: &mut [u64],
+) -> Result<(), AllocError>
+    requires named { (factor : ℕ) × All (IsNamed factor text.now tape.now) words.old }
+    requires alike { All (λ w. high_half w ≡ hash) words.old }
+    ensures all { OnOk result (IsPermutation words.old words.new) }
+    ensures sorted { OnOk result (IsSorted (on (name_in text.now tape.now) name_cmp) words.new) }
+{
+    if words.len() < 2 {
+        return Ok(());
+    }
+    let keys = sorted_keys(alloc, text, tape, words)?;
+    let mut sorted = Vec::new(alloc);
+    add_words(keys.as_slice(), hash, &mut sorted)?;
+    words.copy_from_slice(sorted.as_slice());
+    Ok(())
+}
+
+// Sorts words in the order of their hashes by names where hashes meet. Names are looked at nowhere else.
+fn sort_runs(alloc: Global, text: &str, tape: &Tape, words: &mut Vec<u64>) -> Result<(), AllocError>
+    requires named { (factor : ℕ) × All (IsNamed factor text.now tape.now) words.old.items }
+    requires sorted { IsSorted nat_cmp words.old.items }
+    ensures all { OnOk result (IsPermutation words.old.items words.new.items) }
+    ensures sorted { OnOk result (IsSorted (word_cmp text.now tape.now) words.new.items) }
+{
+    let mut from = 0;
+    while from < words.len() {
+        let hash = hash_in(words[from]);
+        let to = run_end(words.as_slice(), from);
+        sort_run(alloc, text, tape, hash, &mut words[from..to])?;
+        from = to;
+    }
+    Ok(())
+}
+
+// Whether the members in two words have one name.
+fn are_twins(text: &str, tape: &Tape, one: u64, other: u64) -> bool
+    requires { (factor : ℕ) × IsNamed factor text.now tape.now one × IsNamed factor text.now tape.now other }
+    ensures { result ≡ pointwise nat_eq (name_in text.now tape.now one) (name_in text.now tape.now other) }
+{
+    if hash_in(one) != hash_in(other) {
+        return false;
+    }
+    let name = unquoted(text, tape.label(number_in(one)));
+    is_sought(text, tape.label(number_in(other)), Sought::Spelt(name))
+}
+
+// Whether the name of one of the members in the words is that of the next one.
+fn names_meet(text: &str, tape: &Tape, words: &[u64]) -> bool
+    requires { (factor : ℕ) × All (IsNamed factor text.now tape.now) words.now }
+    ensures { result ≡ repeats_next_by (on (name_in text.now tape.now) (pointwise nat_eq)) words.now }
 {
     for i in 1..words.len() {
-        if hash_in(words[i - 1]) == hash_in(words[i]) {
+        if are_twins(text, tape, words[i - 1], words[i]) {
             return true;
         }
     }
     false
 }
 
-// Members as words in the order of their keys, in place of the words that were there.
-fn set_words(keys: &[Key<'_>], words: &mut Vec<u64>) -> Result<(), AllocError>
-    ensures { OnOk result (words.new.items ≡ map word_of keys.now) }
-{
-    words.clear();
-    for key in keys {
-        push(words, word(key.hash(), key.number()))?;
-    }
-    Ok(())
-}
-
-/// Sets the words to the members of the object with this number in the order of their names, or finds two names that mean the same. Names
-/// are looked at only where hashes of theirs meet.
+/// Sets the words to the members of the object with this number in the order of their names, or finds two names that mean the same. The
+/// hashes in the words are by the factor.
 #[inline(never)]
 pub fn order_words(
     alloc: Global,
     text: &str,
     tape: &Tape,
     n: u32,
+    factor: u64,
     words: &mut Vec<u64>,
 ) -> Result<bool, AllocError>
     requires inside { n < length tape.now }
     requires object { (ms : Members) × IsObject text.now tape.now n ms }
     requires short { length tape.now < 2 ^ 31 }
     ensures found { IfOk result (λ found. (ms : Members) → IsObject text.now tape.now n ms → found ≡ repeats (meanings ms)) }
-    ensures ordered { IfOk result (λ found. found ≡ false → IsOrderOf text.now tape.now n words.new.items) }
+    ensures ordered { IfOk result (λ found. found ≡ false → IsOrderOf factor text.now tape.now n words.new.items) }
 {
-    sort_words(text, tape, n, words)?;
-    if !hashes_meet(words.as_slice()) {
-        return Ok(false);
-    }
-    let keys = sorted_keys(alloc, text, tape, n)?;
-    if names_meet(keys.as_slice()) {
-        return Ok(true);
-    }
-    set_words(keys.as_slice(), words)?;
-    Ok(false)
+    sort_words(text, tape, n, factor, words)?;
+    sort_runs(alloc, text, tape, words)?;
+    Ok(names_meet(text, tape, words.as_slice()))
 }
 
 /// Keeps the order of the members of one more object, or finds a name that comes again. The words are room to work in.
@@ -193,7 +250,7 @@ pub fn order_members(
     ensures found { IfOk result (λ found. (ms : Members) → IsObject text.now tape.now n ms → found ≡ repeats (meanings ms)) }
     ensures kept { IfOk result (λ found. found ≡ false → AreKept text.now tape.now (n + 1) order.new) }
 {
-    if order_words(alloc, text, tape, n, words)? {
+    if order_words(alloc, text, tape, n, order.factor(), words)? {
         return Ok(true);
     }
     order.push(n, words.as_slice())?;

@@ -2,7 +2,7 @@
 
 ghost use Rattle.std.specs.Prelude.{◌≡◌, ◌+◌, ◌*◌, ◌<◌, ◌++◌, ◌∷◌, [], IfOk, OnOk, MatchOption};
 ghost use Rattle.std.specs.List.{All, Contains};
-ghost use Rattle.name_order.specs.Orders.{Order, high_half, low_half};
+ghost use Rattle.name_order.specs.Orders.{Order, Kept, high_half, low_half};
 
 use std::alloc::{AllocError, Global};
 use std::marker::Model;
@@ -29,15 +29,16 @@ pub struct NameOrder {
     headers: Vec<Header>,
     // of all objects the members as words
     words: Vec<u64>,
+    // of the hashes in the words
+    factor: u64,
 }
 
 impl Model for NameOrder {
-    ghost use Rattle.std.specs.Prelude.{List};
-    ghost use Rattle.name_order.specs.Orders.{Order, orders_of, AreOrders};
+    ghost use Rattle.name_order.specs.Orders.{Kept, orders_of, AreOrders};
 
-    ghost Value = { List Order };
+    ghost Value = { Kept };
 
-    ghost view = { λ o. orders_of o.headers.items o.words.items };
+    ghost view = { λ o. record { factor = o.factor; orders = orders_of o.headers.items o.words.items } };
 
     ghost invariant = { λ o. AreOrders o.headers.items o.words.items };
 }
@@ -75,14 +76,22 @@ impl NameOrder {
     }
 
     /// Of no object, with room for so many members.
-    pub fn new(alloc: Global, room: usize) -> Result<NameOrder, AllocError>
-        ensures { IfOk result (λ order. order ≡ []) }
+    pub fn new(alloc: Global, room: usize, factor: u64) -> Result<NameOrder, AllocError>
+        ensures { IfOk result (λ order. order ≡ record { factor = factor; orders = [] }) }
     {
         let words = Vec::with_capacity(alloc, room)?;
         Ok(NameOrder {
             headers: Vec::new(alloc),
             words,
+            factor,
         })
+    }
+
+    /// The factor of the hashes in the words.
+    pub fn factor(&self) -> u64
+        ensures { result ≡ self.now.factor }
+    {
+        self.factor
     }
 
     /// Gives back the room for more members.
@@ -94,8 +103,8 @@ impl NameOrder {
 
     /// Adds an object behind all others, with its members as words in their order.
     pub(crate) fn push(&mut self, object: u32, words: &[u64]) -> Result<(), AllocError>
-        requires { All (λ (o : Order). o.object < object) self.old }
-        ensures { OnOk result (self.new ≡ self.old ++ record { object = object; words = words.now } ∷ []) }
+        requires { All (λ (o : Order). o.object < object) self.old.orders }
+        ensures { OnOk result (self.new ≡ record { factor = self.old.factor; orders = self.old.orders ++ record { object = object; words = words.now } ∷ [] }) }
     {
         let header = Header {
             object,
@@ -109,7 +118,7 @@ impl NameOrder {
 
     /// The members of an object as words in their order, if it keeps them.
     pub fn run(&self, object: u32) -> Option<&[u64]>
-        ensures { MatchOption result ((o : Order) → Contains self.now o → o.object ≡ object → ⊥) (λ words. Contains self.now (record { object = object; words = words.now })) }
+        ensures { MatchOption result ((o : Order) → Contains self.now.orders o → o.object ≡ object → ⊥) (λ words. Contains self.now.orders (record { object = object; words = words.now })) }
     {
         let Ok(at) = self
             .headers

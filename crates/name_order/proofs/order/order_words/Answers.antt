@@ -1,25 +1,23 @@
-use Rattle.json_text.proofs.Names.{◌∙◌, sym, ap, map, subst, nat_eq, on, repeats_next_by, arith}
-use Rattle.name_order.specs.Ordered.{word_of, IsOrderOf}
-use Rattle.name_order.specs.Orders.{high_half}
-use Rattle.name_order.proofs.HashedWords.{none_again, ordered, ordered_keys}
-use Rattle.name_order.proofs.Runs.{same_key, found_again, good, apart}
+use Rattle.json_text.proofs.Names.{◌∙◌, sym, ap, subst, All, All-permutation, nat_eq, on, pointwise, repeats_next_by}
+use Rattle.std.proofs.lemmas.List.Sorted.{IsPermutation-trans}
+use Rattle.name_order.specs.Ordered.{name_in, IsNamed}
+use Rattle.name_order.proofs.HashedWords.{good, found, ordered}
 use Rattle.name_order.proofs.order.order_words.Goals as goal
 
-pub returns-then-not-hashes_meet : goal.returns-then-not-hashes_meet
-returns-then-not-hashes_meet c =
-    let text = c.args.text.now in let tape = c.args.tape.now in let words = c.in_ok-sort_words.ensures in let (ms, o) = c.requires.object in
-    let none = ap (repeats_next_by (on high_half nat_eq)) (sym c.as_slice.ensures.value) ∙ sym c.hashes_meet.ensures ∙ c.if-not-hashes_meet.true in
-    record { found = search (arith, none_again); ordered = λ _. search (arith, ordered) }
+pub sort_runs-requires-clause-named : goal.sort_runs-requires-clause-named
+sort_runs-requires-clause-named c = let (ms, o) = c.requires.object in
+    (c.args.factor, good c.args.factor c.args.text.now c.args.tape.now c.requires.short c.args.n _ c.in_ok-sort_words.ensures.all ms o)
 
-pub returns-then-names_meet-clause-found : goal.returns-then-names_meet-clause-found
-returns-then-names_meet-clause-found c = found_again c.args.text.now c.args.tape.now c.args.n _ c.in_ok-keys.ensures.all c.in_ok-keys.ensures.sorted
-    _ (sym c.if-names_meet.true ∙ c.names_meet.ensures ∙ ap (repeats_next_by same_key) c.as_slice-2.ensures.value)
+pub names_meet-requires : goal.names_meet-requires
+names_meet-requires c = let (ms, o) = c.requires.object in let named = IsNamed c.args.factor c.args.text.now c.args.tape.now in
+    (c.args.factor, subst (All named) (sym c.as_slice.ensures.value) (All-permutation named _ _ c.in_ok-sort_runs.ensures.all (good c.args.factor c.args.text.now c.args.tape.now c.requires.short c.args.n _ c.in_ok-sort_words.ensures.all ms o)))
 
-pub returns : goal.returns
-returns c = let text = c.args.text.now in let tape = c.args.tape.now in let keys = c.in_ok-keys.ensures in let (ms, o) = c.requires.object in
-    let same = ap (repeats_next_by same_key) c.as_slice-2.ensures.value in record {
-      found = found_again text tape c.args.n _ keys.all keys.sorted _ (sym c.if-names_meet.false ∙ c.names_meet.ensures ∙ same);
-      ordered = λ _.
-          subst (IsOrderOf text tape c.args.n) (sym (c.in_ok-set_words.ensures ∙ ap (map word_of) c.as_slice-3.ensures.value))
-          (ordered_keys text tape c.requires.short c.args.n _ keys.all (good text tape c.args.n _ keys.all keys.sorted ms o) (apart text tape c.args.n _ keys.all keys.sorted (sym same ∙ sym c.names_meet.ensures ∙ c.if-names_meet.false)));
-    }
+pub returns-clause-found : goal.returns-clause-found
+returns-clause-found c = λ ms o.
+    c.names_meet.ensures ∙ ap (repeats_next_by (on (name_in c.args.text.now c.args.tape.now) (pointwise nat_eq))) c.as_slice.ensures.value
+    ∙ found c.args.factor c.args.text.now c.args.tape.now c.requires.short c.args.n _ (λ ms' o'. IsPermutation-trans _ _ _ (c.in_ok-sort_words.ensures.all ms' o') c.in_ok-sort_runs.ensures.all) c.in_ok-sort_runs.ensures.sorted ms o
+
+pub returns-clause-ordered : goal.returns-clause-ordered
+returns-clause-ordered c = λ none. let (ms, o) = c.requires.object in
+    ordered c.args.factor c.args.text.now c.args.tape.now c.requires.short c.args.n _ (λ ms' o'. IsPermutation-trans _ _ _ (c.in_ok-sort_words.ensures.all ms' o') c.in_ok-sort_runs.ensures.all) c.in_ok-sort_runs.ensures.sorted ms o
+    (sym (c.names_meet.ensures ∙ ap (repeats_next_by (on (name_in c.args.text.now c.args.tape.now) (pointwise nat_eq))) c.as_slice.ensures.value) ∙ none)

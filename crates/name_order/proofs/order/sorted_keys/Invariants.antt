@@ -1,9 +1,6 @@
-use Rattle.std.proofs.Common.{◌-◌}
-use Rattle.name_order.proofs.KeysLeft.{IsGiven}
+use Rattle.std.proofs.Common.{◌≡◌, ◌++◌, drop, map}
+use Rattle.name_order.specs.Ordered.{key_in}
 use Rattle.name_order.proofs.order.sorted_keys.Given as goal
 
-abbrev pub invariant-loop-k : goal.invariant-loop-k
-invariant-loop-k l = IsGiven (λ x. x) l.text l.tape l.n l.k l.end l.keys.items
-
-abbrev pub decreases-loop-k : goal.decreases-loop-k
-decreases-loop-k l = l.end - l.k
+abbrev pub invariant-loop-member : goal.invariant-loop-member
+invariant-loop-member l = l.keys.items ++ map (key_in l.text l.tape) (drop l.member-index l.words) ≡ map (key_in l.text l.tape) l.words
