@@ -4,6 +4,9 @@ use crate::trial::Trial;
 use json_tape::{Document, Kind, Lead, NodeId, Progress, ReadTask, Scalars, TextFault};
 use std::alloc::Global;
 
+// Of the hashes of names in texts that are read in shares. Any number would do.
+const FACTOR: u64 = 0xD6E8_FEB8_6659_FD93;
+
 const SAMPLE: &[u8] = b"{\"a\":[1,{\"b\":\"\\u00e9\\ud83d\\ude00\"}],\"c\":-1.5e+3}";
 
 /// The trials.
@@ -333,7 +336,7 @@ struct Shared {
 
 /// Reads a text in shares of so many places of its index.
 fn read_in_shares(alloc: Global, text: &[u8], places: usize) -> Shared {
-    let mut task = match ReadTask::begin(alloc, text) {
+    let mut task = match ReadTask::begin(alloc, text, FACTOR) {
         Ok(task) => task,
         Err(fault) => {
             return Shared {
@@ -402,7 +405,7 @@ fn takes_verdicts_on_its_text(alloc: Global) -> Trial {
 
 /// Reads a text where the verdict on the first one is known: the number of its values.
 fn known_text(alloc: Global, read: &[u8], text: &[u8]) -> Result<u32, TextFault> {
-    let verdict = match ReadTask::begin(alloc, read) {
+    let verdict = match ReadTask::begin(alloc, read, FACTOR) {
         Ok(task) => match task.step(alloc, 400) {
             Progress::Complete(verdict) => Some(verdict),
             Progress::Paused(_) => None,

@@ -117,7 +117,7 @@ module _ (d : Doc) (s : IsDocument d) (name : List ℕ) where
   number_in (x ∷ ks) y (zero, l, e) = (0, omega arith, ap key_number e)
   number_in (x ∷ ks) y (suc i, l, e) = let r = number_in ks y (i, omega arith, e) in (suc r.0, (let h = r.1 in omega arith), r.2)
 
-  module _ (n : ℕ) (words : List ℕ) (order : IsOrderOf d.text d.entries n words) (ms : Members) (o : IsObject d.text d.entries n ms) where
+  module _ (factor n : ℕ) (words : List ℕ) (order : IsOrderOf factor d.text d.entries n words) (ms : Members) (o : IsObject d.text d.entries n ms) where
     abbrev members : List ℕ
     members = members_of words
 
@@ -141,7 +141,7 @@ module _ (d : Doc) (s : IsDocument d) (name : List ℕ) where
           let b : get_or members j 0 ≡ m = get_or_default members j 0 m r ∙ p in
           let both : name_at d.text d.entries (get_or members j 0) ≡ name_at d.text d.entries (get_or members i 0) =
           ap (name_at d.text d.entries) b ∙ e ∙ sym g ∙ sym (good y h).named ∙ sym (ap (name_at d.text d.entries) a) in
-          let one = one_place d.text d.entries words name order.named j i r l both in ap (λ k. node_at d k ∷ []) (sym b ∙ one ∙ a) ∙ sym f
+          let one = one_place factor d.text d.entries words name order.named j i r l both in ap (λ k. node_at d k ∷ []) (sym b ∙ one ∙ a) ∙ sym f
 
     -- where no member is found, none has the name
     pub found_none : ((k : ℕ) → k < length members → name_at d.text d.entries (get_or members k 0) ≡ name → ⊥) → ◌≡◌ {A = List Node} [] (first_where (is_named name) (children (node_at d n)))
@@ -158,9 +158,9 @@ unfolding count
 object_in d s n h k = object_of d.text d.entries (tree_of d) s.accepted.0 s.tape n nothing_there h (kind_is d s n h (entry_in d.entries n) (get_or_default d.entries n nothing_there (entry_in d.entries n) h) ∙ k)
 
 -- a member that was found is a node
-pub found_in : (d : Doc) (words : List ℕ) → AreNamed d.text d.entries words → (m : ℕ) → Contains (members_of words) m → m < count d
+pub found_in : (factor : ℕ) (d : Doc) (words : List ℕ) → AreNamed factor d.text d.entries words → (m : ℕ) → Contains (members_of words) m → m < count d
 unfolding count
-found_in d words named m (i, l, e) = subst (λ k. k < length d.entries) (get_or_default (members_of words) i 0 m l ∙ e) (member_inside d.text d.entries words [] named i l)
+found_in factor d words named m (i, l, e) = subst (λ k. k < length d.entries) (get_or_default (members_of words) i 0 m l ∙ e) (member_inside factor d.text d.entries words [] named i l)
 
 -- from the fields to the value
 pub same_name : (i d : Doc) → i ≡ d → (text : List ℕ) → text ≡ i.text → (m : ℕ) → name_at text i.entries m ≡ name_at d.text d.entries m

@@ -24,8 +24,8 @@ ghost use Rattle.json_tape.specs.Document.{tree_of, count, node_at, later, seen,
 use crate::children::Children;
 use crate::judge::judge_tape;
 use json_strings::{
-    Scalars, Sought, Words, count_of, is_meant_by, is_meant_plainly, is_sought, part_at, unquoted,
-    words_of,
+    FACTOR, Scalars, Sought, Words, count_of, is_meant_by, is_meant_plainly, is_sought, part_at,
+    unquoted, words_of,
 };
 use json_text::{BuildFault, Entry, Kind, Lead, NodeId, Role, TextFault};
 use json_walk::{Reading, walk};
@@ -106,19 +106,20 @@ pub(crate) fn fault_of(fault: BuildFault) -> TextFault
     }
 }
 
-// The tape and the order of the members of wide objects of a text that was walked, or its first fault.
+// The tape and the order of the members of wide objects of a text that was walked, or its first fault. Names are hashed by the factor.
 pub(crate) fn judged(
     alloc: Global,
     text: &str,
     index: &Index,
     reading: Reading,
+    factor: u64,
 ) -> Result<Parts, TextFault>
     requires short { length text.now ≤ text_limit }
     requires index { IsIndexOf index.now text.now }
     requires reading { (before : ℕ) × (now : ℕ) × IsReading text.now before now reading }
     ensures { MatchResult result (λ p. IsKept text.now p.tape p.names) (λ fault. Explains text.now fault) }
 {
-    match judge_tape(alloc, text, index.lone_surrogate, &reading) {
+    match judge_tape(alloc, text, index.lone_surrogate, &reading, factor) {
         Ok(names) => Ok(Parts {
             tape: reading.tape,
             names,
@@ -134,7 +135,7 @@ fn read_indexed(alloc: Global, text: &str, index: &Index) -> Result<Parts, TextF
     ensures { MatchResult result (λ p. IsKept text.now p.tape p.names) (λ fault. Explains text.now fault) }
 {
     match walk(alloc, index, &mut Looks::new(text.as_bytes())) {
-        Ok(reading) => judged(alloc, text, index, reading),
+        Ok(reading) => judged(alloc, text, index, reading, FACTOR),
         Err(fault) => Err(fault_of(fault)),
     }
 }
@@ -259,16 +260,18 @@ impl Document {
         self.tape.after(n.0)
     }
 
-    // The members of a wide object as words in their order; `None` of any other value.
-    fn run(&self, n: NodeId) -> Option<&[u64]>
+    // The members of a wide object as words in their order, and the factor of the hashes in these; `None` of any other value.
+    fn run(&self, n: NodeId) -> Option<(&[u64], u64)>
         requires { n.0 < count self.now }
         ensures document { IsDocument self.now }
-        ensures order { MatchOption result (IsWide (entry_in self.now.entries n.0) → ⊥) (λ words. IsOrderOf self.now.text self.now.entries n.0 words.now) }
+        ensures order { MatchOption result (IsWide (entry_in self.now.entries n.0) → ⊥) (λ run. IsOrderOf run.1 self.now.text self.now.entries n.0 run.0.now) }
     {
-        if is_wide(self.entry(n)) {
-            self.names.run(n.0)
-        } else {
-            None
+        if !is_wide(self.entry(n)) {
+            return None;
+        }
+        match self.names.run(n.0) {
+            Some(words) => Some((words, self.names.factor())),
+            None => None,
         }
     }
 
@@ -539,10 +542,12 @@ impl Document {
     {
         match self.run(n) {
             None => self.first_meant(n, sought),
-            Some(words) => match member_in(&self.text, &self.tape, words, sought) {
-                Some(number) => Some(NodeId(number)),
-                None => None,
-            },
+            Some((words, factor)) => {
+                match member_in(&self.text, &self.tape, words, factor, sought) {
+                    Some(number) => Some(NodeId(number)),
+                    None => None,
+                }
+            }
         }
     }
 

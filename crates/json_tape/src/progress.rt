@@ -34,6 +34,7 @@ impl ReadTask {
             index,
             way,
             mut seen,
+            factor,
         } = self;
         let mut looks = Looks::new(text.as_bytes());
         let way = match go_on(way, &index, &mut looks, &mut seen, places) {
@@ -46,9 +47,17 @@ impl ReadTask {
                 index,
                 way,
                 seen,
+                factor,
             });
         }
-        match end(alloc, text.as_str(), &index, way, Box::into_inner(seen)) {
+        match end(
+            alloc,
+            text.as_str(),
+            &index,
+            way,
+            Box::into_inner(seen),
+            factor,
+        ) {
             Ok(parts) => Progress::Complete(Verdict::Accepted(Document::of_parts(text, parts))),
             Err(fault) => Progress::Complete(Verdict::refused(text, fault)),
         }
@@ -62,13 +71,14 @@ fn end(
     index: &Index,
     way: Way,
     seen: SeenNames,
+    factor: u64,
 ) -> Result<Parts, TextFault>
     requires over { IsOver way }
     requires read { IsRead text.now index.now seen way }
     ensures { MatchResult result (λ p. IsKept text.now p.tape p.names) (λ fault. Explains text.now fault) }
 {
     match way.finish(index, seen) {
-        Ok(reading) => judged(alloc, text, index, reading),
+        Ok(reading) => judged(alloc, text, index, reading, factor),
         Err(fault) => Err(fault_of(fault)),
     }
 }

@@ -19,6 +19,8 @@ pub struct ReadTask {
     pub(crate) way: Way,
     // on the heap, since a task is moved and this is large
     pub(crate) seen: Box<SeenNames>,
+    // of the hashes of its names
+    pub(crate) factor: u64,
 }
 
 impl Model for ReadTask {
@@ -34,12 +36,13 @@ impl Model for ReadTask {
 }
 
 impl ReadTask {
-    /// Begins to read a text: the bytes are copied, and their index is made.
+    /// Begins to read a text: the bytes are copied, and their index is made. The factor, best an odd one that nobody else knows, is that of the hashes
+    /// by which names of wide objects are put in order.
     ///
     /// # Errors
     ///
     /// `TooLong`, `NotUtf8` and `NotJson` as of [`Document::read`], and `Memory`.
-    pub fn begin(alloc: Global, text: &[u8]) -> Result<ReadTask, TextFault>
+    pub fn begin(alloc: Global, text: &[u8], factor: u64) -> Result<ReadTask, TextFault>
         ensures { MatchResult result (λ task. task.text ≡ text.now) (λ f. Explains text.now f) }
     {
         let (index, copy) = match indexed(alloc, text) {
@@ -57,6 +60,7 @@ impl ReadTask {
                 index,
                 way,
                 seen,
+                factor,
             }),
             Err(fault) => Err(fault_of(fault)),
         }
