@@ -38,7 +38,7 @@ use Rattle.request_replies.specs.Tenants.{Serves}
 use Rattle.request_replies.specs.declared.placing.Placed.{Placed}
 use Rattle.path_hub.specs.Sessions.{Sessions, session, Sets}
 use Rattle.path_hub.specs.HubState.{state}
-use Rattle.path_hub.specs.UnderWay.{AreOnWay, AsksQuery, GoesOn, IsAsked, IsBodyCharge, IsChargeAt, IsFirstCharge, ReadsOn, SetsReading, SetsTask, SharesBody, SharesFirst, SharesQuery, Shares, has_other, is_held, is_kept, is_long, is_next_held, is_of_tenant, is_other, may_read, query_in, reading_at, task_at, tenant_asked}
+use Rattle.path_hub.specs.UnderWay.{AreOnWay, AsksQuery, Clears, GoesOn, IsAsked, IsBodyCharge, IsChargeAt, IsFirstCharge, PutsLong, ReadsOn, SetsReading, SetsTask, SharesBody, SharesFirst, SharesQuery, Shares, has_other, is_held, is_kept, is_long, is_next_held, is_of_tenant, is_other, may_read, query_in, reading_at, task_at, tenant_asked, text_in}
 use Rattle.path_hub.proofs.Calls.{one_step}
 
 at_same : (p q : ℕ) → is_at (nat_cmp p) q ≡ true → q ≡ p
@@ -75,7 +75,7 @@ sets_twice conn v w old mid new a b q = b q ∙ ap (cond (is_at (nat_cmp conn) q
     twice true = refl
     twice false = refl
 
-pub sets_still : (conn : ℕ) (v : Option RunningQuery) (old mid new : Tasks) → SetsTask conn v old mid → new.asked.entries ≡ mid.asked.entries → SetsTask conn v old new
+sets_still : (conn : ℕ) (v : Option RunningQuery) (old mid new : Tasks) → SetsTask conn v old mid → new.asked.entries ≡ mid.asked.entries → SetsTask conn v old new
 sets_still conn v old mid new a e q = ap (λ es. lookup (is_at (nat_cmp q)) es) e ∙ a q
 
 -- ---- Who waits
@@ -146,9 +146,33 @@ none_held conn next.Fault t tasks a r = refl
 pub read_on_way : (t : Tenancy) (old new : Tasks) → new.asked.entries ≡ old.asked.entries → AreOnWay t old → AreOnWay t new
 read_on_way t old new same w q a m k h = w q a m (sym (ap (λ es. lookup (is_at (nat_cmp q)) es) same) ∙ k) h
 
--- no reading differs over tasks of which queries differ
-pub reading_still : (conn : ℕ) (v : Option Reading) (old mid new : Tasks) → mid.readings.entries ≡ old.readings.entries → SetsReading conn v mid new → SetsReading conn v old new
-reading_still conn v old mid new same s q = s q ∙ ap (λ es. cond (is_at (nat_cmp conn) q) v (lookup (is_at (nat_cmp q)) es)) same
+pub not_at : (p q : ℕ) → q ≢ p → is_at (nat_cmp p) q ≡ false
+not_at p q n = by (is_at (nat_cmp p) q) refl
+  where
+    by : (b : Bool) → is_at (nat_cmp p) q ≡ b → b ≡ false
+    by true e = absurd (n (at_same p q e))
+    by false e = refl
+
+-- where one connection's is set, the others' stay
+pub other_task : (conn : ℕ) (v : Option RunningQuery) (old new : Tasks) → SetsTask conn v old new → (q : ℕ) → q ≢ conn → task_at q new ≡ task_at q old
+other_task conn v old new s q n = s q ∙ ap (λ b. cond b v (task_at q old)) (not_at conn q n)
+
+pub other_reading : (conn : ℕ) (v : Option Reading) (old new : Tasks) → SetsReading conn v old new → (q : ℕ) → q ≢ conn → reading_at q new ≡ reading_at q old
+other_reading conn v old new s q n = s q ∙ ap (λ b. cond b v (reading_at q old)) (not_at conn q n)
+
+-- a reading is set over tasks of which no other connection's differs
+reading_before : (conn : ℕ) (v : Option Reading) (old mid new : Tasks) → ((q : ℕ) → q ≢ conn → reading_at q mid ≡ reading_at q old) → SetsReading conn v mid new → SetsReading conn v old new
+reading_before conn v old mid new others s q = s q ∙ by (is_at (nat_cmp conn) q) refl
+  where
+    by : (b : Bool) → is_at (nat_cmp conn) q ≡ b → cond b v (reading_at q mid) ≡ cond b v (reading_at q old)
+    by true e = refl
+    by false e = others q (at_other conn q e)
+
+reading_still : (conn : ℕ) (v : Option Reading) (old mid new : Tasks) → SetsReading conn v old mid → new.readings.entries ≡ mid.readings.entries → SetsReading conn v old new
+reading_still conn v old mid new a e q = ap (λ es. lookup (is_at (nat_cmp q)) es) e ∙ a q
+
+pub clears_still : (conn : ℕ) (old mid new : Tasks) → Clears conn old mid → new.asked.entries ≡ mid.asked.entries → new.readings.entries ≡ mid.readings.entries → Clears conn old new
+clears_still conn old mid new c a r = record { query = sets_still conn None old mid new c.query a; reading = reading_still conn None old mid new c.reading r }
 
 reading_twice : (conn : ℕ) (v w : Option Reading) (old mid new : Tasks) → SetsReading conn v old mid → SetsReading conn w mid new → SetsReading conn w old new
 reading_twice conn v w old mid new a b q = b q ∙ ap (cond (is_at (nat_cmp conn) q) w) (a q) ∙ twice (is_at (nat_cmp conn) q)
@@ -218,16 +242,17 @@ resumed t m conn request tasks (Some a) (Some k) w h e its only = (
 )
 
 -- what the connection had under way is taken out, and is put back with less left
-pub goes_on : (conn : ℕ) (request : Placed) (old mid new : Tasks) (c text : List ℕ) (asked : Option RunningQuery) (task : Option (Box QueryTask Global)) (to : Box QueryTask Global) → SetsTask conn None old mid → asked ≡ task_at conn old
+pub goes_on : (conn : ℕ) (request : Placed) (old mid new : Tasks) (c text : List ℕ) (asked : Option RunningQuery) (task : Option (Box QueryTask Global)) (to : Box QueryTask Global) → Clears conn old mid → new.readings.entries ≡ mid.readings.entries → asked ≡ task_at conn old
     → ((a : RunningQuery) → asked ≡ Some a → IsAsked a request → task ≡ Some a.task) → IfSome task (λ from. work_left to.value < work_left from.value) → asked_of request.command ≡ Query c text
     → ((a : RunningQuery) × IsAsked a request × (a.task ≡ to) × SetsTask conn (Some a) mid new) → GoesOn conn request.place c text old new
-goes_on conn request old mid new c text asked task to out was same less e (a, i, t, put) =
+goes_on conn request old mid new c text asked task to out still was same less e (a, i, t, put) =
     let parts = same_Some (a.collection.items, a.query.items) (c, text) (sym i.1 ∙ ap query_in e) in
     record {
       asked = a;
-      sets = sets_twice conn None (Some a) old mid new out put;
+      sets = sets_twice conn None (Some a) old mid new out.query put;
       its = (i.0, ap (λ (k : List ℕ × List ℕ). k.0) parts, ap (λ (k : List ℕ × List ℕ). k.1) parts);
       less = λ b h o. subst (λ (k : Box QueryTask Global). work_left k.value < work_left b.task.value) (sym t) (fewer b.task (same b (was ∙ h) (o.0, ap query_in e ∙ ap (λ x. Some (x, text)) (sym o.1) ∙ ap (λ x. Some (b.collection.items, x)) (sym o.2))));
+      reading = reading_still conn None old mid new out.reading still;
     }
   where
     fewer : (u : Box QueryTask Global) → task ≡ Some u → work_left to.value < work_left u.value
@@ -268,7 +293,7 @@ body_charge (Some units) t body request m p h (c, text, e, k) = (asks_query t bo
 
 -- it is answered
 pub replied : (law : ServesPlaces) (charge : Option ℕ) (conn : ℕ) (t t' : Tenancy) (body : List ℕ) (request : Placed) (m m' : Map) (tasks tasks' : Tasks) (before after : List ℕ) → IsPlaced t body request → slice_get t.maps request.place ≡ Some m → t' ≡ with_map t request.place m'
-    → Gives m (asked_of request.command) request.number before after m' → IsChargeOf charge (asked_of request.command) m → SetsTask conn None tasks tasks' → SharesQuery (share.Replied charge) conn body t tasks before t' tasks' after
+    → Gives m (asked_of request.command) request.number before after m' → IsChargeOf charge (asked_of request.command) m → Clears conn tasks tasks' → SharesQuery (share.Replied charge) conn body t tasks before t' tasks' after
 replied law charge conn t t' body request m m' tasks tasks' before after p h x g c s = (
   subst (λ k. Serves t body before after k) (sym x) (law.served t body before after request.number request.place p.key (asked_of request.command) m m' p.reads p.at h g),
   s,
@@ -284,16 +309,30 @@ works conn t t' body request m m' c text tasks tasks' before after p h x y o e g
 pub task_same : (conn : ℕ) (old mid : Tasks) → mid.asked.entries ≡ old.asked.entries → task_at conn mid ≡ task_at conn old
 task_same conn old mid same = ap (λ es. lookup (is_at (nat_cmp conn)) es) same
 
--- over tasks of which readings differ
-pub shares_before : (s : Advance) (conn : ℕ) (body : List ℕ) (t t' : Tenancy) (old mid new : Tasks) (before after : List ℕ) → mid.asked.entries ≡ old.asked.entries → SharesQuery s conn body t mid before t' new after → SharesBody s conn body t old before t' new after
-shares_before (share.Replied charge) conn body t t' old mid new before after same h = (h.0, sets_before conn None old mid new same h.1, h.2)
-shares_before share.Working conn body t t' old mid new before after same h =
+-- over tasks of which the connection's reading differs
+pub shares_before : (s : Advance) (conn : ℕ) (body : List ℕ) (t t' : Tenancy) (old mid new : Tasks) (before after : List ℕ) → mid.asked.entries ≡ old.asked.entries → ((q : ℕ) → q ≢ conn → reading_at q mid ≡ reading_at q old)
+    → SharesQuery s conn body t mid before t' new after → SharesBody s conn body t old before t' new after
+shares_before (share.Replied charge) conn body t t' old mid new before after same others h = (h.0, record { query = sets_before conn None old mid new same h.1.query; reading = reading_before conn None old mid new others h.1.reading }, h.2)
+shares_before share.Working conn body t t' old mid new before after same others h =
     let g = h.2.1 in (
       h.0,
       h.1,
-      inl (h.2.0, record { asked = g.asked; sets = sets_before conn (Some g.asked) old mid new same g.sets; its = g.its; less = λ a e o. g.less a (task_same conn old mid same ∙ e) o }),
+      inl (
+        h.2.0,
+        record {
+          asked = g.asked;
+          sets = sets_before conn (Some g.asked) old mid new same g.sets;
+          its = g.its;
+          less = λ a e o. g.less a (task_same conn old mid same ∙ e) o;
+          reading = reading_before conn None old mid new others g.reading;
+        },
+      ),
     )
-shares_before share.Idle conn body t t' old mid new before after same h = absurd h
+shares_before share.Idle conn body t t' old mid new before after same others h = absurd h
+
+-- the text that is put is that of a long body
+pub puts_long : (t : Tenancy) (body text : List ℕ) (request : Placed) → IsPlaced t body request → is_long body ≡ true → text_in (asked_of request.command) ≡ Some text → PutsLong body t
+puts_long t body text request p l e = record { long = l; number = request.number; key = p.key; asked = asked_of request.command; reads = p.reads; text = text; puts = e; place = request.place; placed = p.at }
 
 -- or one for which memory runs out
 pub may_want : (law : ServesPlaces) (asked : wire.Asked) (n : ℕ) (m : Map) (task : QueryTask) → IsUnderWay asked m task → MayWant asked n m

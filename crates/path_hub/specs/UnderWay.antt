@@ -49,13 +49,13 @@ IsOf a place collection text = (a.place ≡ place) × (a.collection.items ≡ co
 -- the collection and the text of a query that is asked
 abbrev pub query_in : wire.Asked → Option (List ℕ × List ℕ)
 query_in (Query collection text) = Some (collection, text)
-query_in (wire.Put collection document text) = None
-query_in (wire.Get collection document) = None
-query_in (wire.Remove collection document) = None
-query_in (wire.ListNames collection) = None
-query_in (wire.DropCollection collection) = None
-query_in wire.Usage = None
-query_in (wire.PutNew collection document text) = None
+query_in asked = None
+
+-- the text that is put
+abbrev pub text_in : wire.Asked → Option (List ℕ)
+text_in (wire.Put collection document text) = Some text
+text_in (wire.PutNew collection document text) = Some text
+text_in asked = None
 
 -- it is what is asked
 abbrev pub IsAsked : RunningQuery → Placed → Type 0
@@ -64,13 +64,6 @@ IsAsked a request = (a.place ≡ request.place) × (query_in (asked_of request.c
 -- each query under way is on its way to its answer from its tenant's map
 abbrev pub AreOnWay : Tenancy → Tasks → Type 0
 AreOnWay t tasks = (conn : ℕ) (a : RunningQuery) (m : Map) → task_at conn tasks ≡ Some a → slice_get t.maps a.place ≡ Some m → Goes a.collection.items a.query.items m a.task.value
-
--- the connection's query is under way, with less left than it had
-pub record GoesOn (conn place : ℕ) (collection text : List ℕ) (old new : Tasks) : Type 0 where
-  pub asked : RunningQuery
-  pub sets : SetsTask conn (Some asked) old new
-  pub its : IsOf asked place collection text
-  pub less : (a : RunningQuery) → task_at conn old ≡ Some a → IsOf a place collection text → work_left asked.task.value < work_left a.task.value
 
 -- ---- Readings
 
@@ -81,7 +74,20 @@ reading_at conn tasks = lookup (is_at (nat_cmp conn)) tasks.readings.entries
 abbrev pub SetsReading : ℕ → Option Reading → Tasks → Tasks → Type 0
 SetsReading conn v old new = (q : ℕ) → reading_at q new ≡ (if is_at (nat_cmp conn) q then v else reading_at q old)
 
--- the connection's text is read on, with fewer places left than there were, and no query goes on
+-- nothing of the connection is under way, and that of the others stays
+pub record Clears (conn : ℕ) (old new : Tasks) : Type 0 where
+  pub query : SetsTask conn None old new
+  pub reading : SetsReading conn None old new
+
+-- the connection's query is under way, with less left than it had, and no text of it is read
+pub record GoesOn (conn place : ℕ) (collection text : List ℕ) (old new : Tasks) : Type 0 where
+  pub asked : RunningQuery
+  pub sets : SetsTask conn (Some asked) old new
+  pub its : IsOf asked place collection text
+  pub less : (a : RunningQuery) → task_at conn old ≡ Some a → IsOf a place collection text → work_left asked.task.value < work_left a.task.value
+  pub reading : SetsReading conn None old new
+
+-- the connection's text is read on, with fewer places left than there were, and all queries stay
 pub record ReadsOn (conn : ℕ) (old new : Tasks) : Type 0 where
   pub same : new.asked.entries ≡ old.asked.entries
   pub reading : Reading
@@ -144,14 +150,26 @@ pub record AsksQuery (body : List ℕ) (t : Tenancy) : Type 0 where
   pub place : ℕ
   pub placed : place_in t.keys key ≡ Some place
 
+-- the body is long, and puts a text of a tenant
+pub record PutsLong (body : List ℕ) (t : Tenancy) : Type 0 where
+  pub long : is_long body ≡ true
+  pub number : ℕ
+  pub key : List ℕ
+  pub asked : wire.Asked
+  pub reads : Asks number key asked ≡ reading body
+  pub text : List ℕ
+  pub puts : text_in asked ≡ Some text
+  pub place : ℕ
+  pub placed : place_in t.keys key ≡ Some place
+
 -- its charge is told
 abbrev pub IsBodyCharge : Option ℕ → List ℕ → Tenancy → Type 0
 IsBodyCharge None body t = Unit {0}
 IsBodyCharge (Some units) body t = (a : AsksQuery body t) × (m : Map) × (slice_get t.maps a.place ≡ Some m) × IsCharge (Some units) a.collection a.text m
 
--- it goes on, or the text of a long body is read on
+-- its query goes on, or the long text that it puts is read on
 abbrev pub WorksOn : ℕ → List ℕ → Tenancy → (old new : Tasks) → Type 0
-WorksOn conn body t old new = ((a : AsksQuery body t) × GoesOn conn a.place a.collection a.text old new) ⊎ ((is_long body ≡ true) × ReadsOn conn old new)
+WorksOn conn body t old new = ((a : AsksQuery body t) × GoesOn conn a.place a.collection a.text old new) ⊎ (PutsLong body t × ReadsOn conn old new)
 
 -- the charge is that of the first body that waits
 abbrev pub IsFirstCharge : Option ℕ → Framing → Tenancy → Type 0
@@ -168,25 +186,25 @@ IsChargeAt (Some units) conn h = (f : Framing) × (session conn h.sessions ≡ S
 
 -- What a share of work on a body leaves, whose text is not read: the step of its reply, or nothing but a query under way.
 abbrev pub SharesQuery : Advance → ℕ → List ℕ → Tenancy → Tasks → List ℕ → Tenancy → Tasks → List ℕ → Type 0
-SharesQuery (share.Replied charge) conn body t tasks before t' tasks' after = Serves t body before after t' × SetsTask conn None tasks tasks' × IsBodyCharge charge body t
+SharesQuery (share.Replied charge) conn body t tasks before t' tasks' after = Serves t body before after t' × Clears conn tasks tasks' × IsBodyCharge charge body t
 SharesQuery share.Working conn body t tasks before t' tasks' after = (t' ≡ t) × (after ≡ before) × ((a : AsksQuery body t) × GoesOn conn a.place a.collection a.text tasks tasks')
 SharesQuery share.Idle conn body t tasks before t' tasks' after = ⊥
 
 -- on any body
 abbrev pub SharesBody : Advance → ℕ → List ℕ → Tenancy → Tasks → List ℕ → Tenancy → Tasks → List ℕ → Type 0
-SharesBody (share.Replied charge) conn body t tasks before t' tasks' after = Serves t body before after t' × SetsTask conn None tasks tasks' × IsBodyCharge charge body t
+SharesBody (share.Replied charge) conn body t tasks before t' tasks' after = Serves t body before after t' × Clears conn tasks tasks' × IsBodyCharge charge body t
 SharesBody share.Working conn body t tasks before t' tasks' after = (t' ≡ t) × (after ≡ before) × WorksOn conn body t tasks tasks'
 SharesBody share.Idle conn body t tasks before t' tasks' after = ⊥
 
 -- on what is first on a connection
 abbrev pub SharesFirst : Advance → ℕ → Framing → Tenancy → Tasks → List ℕ → Framing → Tenancy → Tasks → List ℕ → Type 0
-SharesFirst (share.Replied charge) conn f t tasks before f' t' tasks' after = Answered f t before f' t' after × SetsTask conn None tasks tasks' × IsFirstCharge charge f t
+SharesFirst (share.Replied charge) conn f t tasks before f' t' tasks' after = Answered f t before f' t' after × Clears conn tasks tasks' × IsFirstCharge charge f t
 SharesFirst share.Idle conn f t tasks before f' t' tasks' after = IsIdle f t before f' t' after × (tasks' ≡ tasks)
 SharesFirst share.Working conn f t tasks before f' t' tasks' after = (f' ≡ f) × (t' ≡ t) × (after ≡ before) × WorksOnFirst conn f t tasks tasks'
 
 -- on a connection of a hub, of which only a reply changes the state
 abbrev pub Shares : Advance → ℕ → HubState → Tasks → List ℕ → HubState → Tasks → List ℕ → Type 0
-Shares (share.Replied charge) conn old tasks before new tasks' after = AnswersOne conn old before new after × SetsTask conn None tasks tasks' × IsChargeAt charge conn old
+Shares (share.Replied charge) conn old tasks before new tasks' after = AnswersOne conn old before new after × Clears conn tasks tasks' × IsChargeAt charge conn old
 Shares share.Idle conn old tasks before new tasks' after = AnswersNone conn old before new after × (tasks' ≡ tasks)
 Shares share.Working conn old tasks before new tasks' after = (new ≡ old) × (after ≡ before) × ((f : Framing) × (session conn old.sessions ≡ Some f) × WorksOnFirst conn f old.tenants tasks tasks')
 
@@ -221,11 +239,11 @@ SpendsQuery (share.Replied (Some charge)) conn body t old new units = SpendsOnBo
 SpendsQuery share.Idle conn body t old new units = Unit {0}
 SpendsQuery share.Working conn body t old new units = (a : RunningQuery) × (task_at conn new ≡ Some a) × SpendsOnBody conn body t old units (Paused a.task.value)
 
--- or the text of a long body is read on
+-- or the long text that a body puts is read on
 abbrev pub SpendsBody : Advance → (conn : ℕ) → (body : List ℕ) → Tenancy → (old new : Tasks) → (units : ℕ) → Type 0
 SpendsBody (share.Replied charge) conn body t old new units = SpendsQuery (share.Replied charge) conn body t old new units
 SpendsBody share.Idle conn body t old new units = Unit {0}
-SpendsBody share.Working conn body t old new units = ((is_long body ≡ true) × ReadsOn conn old new) ⊎ SpendsQuery share.Working conn body t old new units
+SpendsBody share.Working conn body t old new units = (PutsLong body t × ReadsOn conn old new) ⊎ SpendsQuery share.Working conn body t old new units
 
 -- a share spends its units on the first body that waits
 abbrev pub SpendsFirst : Advance → ℕ → Framing → Tenancy → (old new : Tasks) → (units : ℕ) → Type 0

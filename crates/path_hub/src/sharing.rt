@@ -1,12 +1,15 @@
 //! One request of a tenant, whose query is answered a share at a time, and whose text is read so.
 
-ghost use Rattle.std.specs.Prelude.{◌≡◌, ◌≢◌, ◌+◌, ◌<◌, ◌≤◌, IfOk, List, ℕ, None, OnErr, false, true, length, vec_len};
+ghost use Rattle.std.specs.Option.{option_map};
+ghost use Rattle.std.specs.Prelude.{◌≡◌, ◌≢◌, ◌+◌, ◌<◌, ◌≤◌, IfOk, List, ℕ, None, OnErr, false, length, vec_len};
 ghost use Rattle.std.specs.Vec.{vec_capacity};
 ghost use Rattle.tape_select.specs.Budget.{budget};
+ghost use Rattle.tenant_map.specs.Tenancy.{Tenancy};
+ghost use Rattle.wire_frames.specs.Readings.{asked_of};
 ghost use Rattle.wire_frames.specs.NextFrame.{next_of};
 ghost use Rattle.request_replies.specs.Shares.{IsPlaced};
 ghost use Rattle.path_hub.specs.Pending.{IsDue};
-ghost use Rattle.path_hub.specs.UnderWay.{AreOnWay, HasEnded, ReadsOn, SharesBody, SharesFirst, SharesQuery, SpendsBody, SpendsFirst, SpendsQuery, has_other, is_held, is_kept, is_long, is_next_held, task_at, tenant_asked};
+ghost use Rattle.path_hub.specs.UnderWay.{AreOnWay, HasEnded, PutsLong, ReadsOn, SharesBody, SharesFirst, SharesQuery, SpendsBody, SpendsFirst, SpendsQuery, has_other, is_held, is_long, is_next_held, reading_at, task_at, tenant_asked, text_in};
 
 use crate::tasks::{Advance, Read, Tasks, task_for};
 use json_tape::Verdict;
@@ -55,20 +58,15 @@ fn is_long(body: &[u8]) -> bool
     body.len() > LONG
 }
 
-// Whether a body of the tenant at a place waits.
-fn is_kept(tasks: &Tasks, place: usize, conn: u32, body: &[u8]) -> bool
-    ensures { result ≡ is_kept place conn body.now tasks.now }
-{
-    tasks.has_other(place, conn) || (is_long(body) && !tasks.may_read(place, conn))
-}
-
 /// Whether the first body waits: for a query of its tenant that another connection has under way, or for texts that are read.
 pub fn waits_first(framer: &Framer, tenants: &Tenants, tasks: &Tasks, conn: u32) -> bool
     ensures { result ≡ is_next_held conn (next_of framer.now) tenants.now tasks.now }
 {
     match framer.front() {
         Front::Frame(body) => match place_asked(tenants, body) {
-            Some(place) => is_kept(tasks, place, conn, body),
+            Some(place) => {
+                tasks.has_other(place, conn) || (is_long(body) && !tasks.may_read(place, conn))
+            }
             None => false,
         },
         Front::Wait | Front::Fault => false,
@@ -76,7 +74,9 @@ pub fn waits_first(framer: &Framer, tenants: &Tenants, tasks: &Tasks, conn: u32)
 }
 
 // The text of a put.
-fn text_of<'a>(command: &Command<'a>) -> Option<&'a [u8]> {
+fn text_of<'a>(command: &Command<'a>) -> Option<&'a [u8]>
+    ensures { option_map (λ text. text.now) result ≡ text_in (asked_of command.now) }
+{
     match command {
         Command::Put { text, .. } | Command::PutNew { text, .. } => Some(text),
         _ => None,
@@ -86,7 +86,8 @@ fn text_of<'a>(command: &Command<'a>) -> Option<&'a [u8]> {
 // Reads on in the text of a long put. The verdict, where there is one.
 fn read_some(tasks: &mut Tasks, work: Work, body: &[u8], request: &Placed<'_>) -> Read
     ensures same { tasks.new.asked.entries ≡ tasks.old.asked.entries }
-    ensures further { result ≡ Read.Further → (is_long body.now ≡ true) × ReadsOn work.conn tasks.old tasks.new }
+    ensures others { (q : ℕ) → q ≢ work.conn → reading_at q tasks.new ≡ reading_at q tasks.old }
+    ensures further { (t : Tenancy) → IsPlaced t body.now request.now → result ≡ Read.Further → PutsLong body.now t × ReadsOn work.conn tasks.old tasks.new }
     ensures whole { budget ≤ work.units → result ≢ Read.Further }
 {
     if work.units < BUDGET && is_long(body) {

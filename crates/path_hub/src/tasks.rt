@@ -1,11 +1,11 @@
 //! Queries and readings under way, which are no part of a hub's state.
 
-ghost use Rattle.std.specs.Prelude.{◌≡◌, ◌<◌, IfSome, OnOk, OnErr, None, Some, []};
+ghost use Rattle.std.specs.Prelude.{◌≡◌, ◌≢◌, ◌<◌, ℕ, IfSome, OnOk, OnErr, None, Some, []};
 ghost use Rattle.std.specs.Option.{option_map};
 ghost use Rattle.tenant_map.specs.Tenancy.{Tenancy};
 ghost use Rattle.wire_frames.specs.Readings.{asked_of};
 ghost use Rattle.path_hub.specs.declared.tasks.RunningQuery.{RunningQuery};
-ghost use Rattle.path_hub.specs.UnderWay.{AreOnWay, IsAsked, ReadsOn, SetsReading, SetsTask, has_other, is_read_for, may_read, query_in, reading_at, task_at};
+ghost use Rattle.path_hub.specs.UnderWay.{AreOnWay, Clears, IsAsked, ReadsOn, SetsReading, SetsTask, has_other, is_read_for, may_read, query_in, reading_at, task_at};
 ghost use Rattle.path_hub.specs.declared.tasks.Reading.{Reading};
 ghost use Rattle.json_tape.specs.Going.{GoesOn};
 
@@ -78,12 +78,10 @@ impl Tasks {
 
     /// Drops what a connection has under way, as where it is gone. No request waits for it any more.
     pub fn abandon(&mut self, conn: u32)
-        ensures sets { SetsTask conn None self.old self.new }
-        ensures read { SetsReading conn None self.old self.new }
+        ensures clears { Clears conn self.old self.new }
         ensures on_way { (t : Tenancy) → AreOnWay t self.old → AreOnWay t self.new }
     {
         self.take(conn);
-        self.take_reading(conn);
     }
 
     /// Whether another connection has a query of the tenant under way.
@@ -127,9 +125,10 @@ impl Tasks {
     ) -> Read
         requires { 0 < places }
         ensures same { self.new.asked.entries ≡ self.old.asked.entries }
+        ensures others { (q : ℕ) → q ≢ conn → reading_at q self.new ≡ reading_at q self.old }
         ensures further { result ≡ Read.Further → ReadsOn conn self.old self.new }
     {
-        let reading = self.take_reading(conn);
+        let reading = self.readings.remove(&conn);
         match read_further(alloc, reading, text, places) {
             Some(Progress::Paused(task)) => match self.keep_reading(alloc, conn, place, task) {
                 Ok(()) => Read::Further,
@@ -140,14 +139,6 @@ impl Tasks {
         }
     }
 
-    fn take_reading(&mut self, conn: u32) -> Option<Reading>
-        ensures was { result ≡ reading_at conn self.old }
-        ensures same { self.new.asked.entries ≡ self.old.asked.entries }
-        ensures sets { SetsReading conn None self.old self.new }
-    {
-        self.readings.remove(&conn)
-    }
-
     fn keep_reading(
         &mut self,
         alloc: Global,
@@ -156,6 +147,7 @@ impl Tasks {
         task: ReadTask,
     ) -> Result<(), AllocError>
         ensures same { self.new.asked.entries ≡ self.old.asked.entries }
+        ensures others { (q : ℕ) → q ≢ conn → reading_at q self.new ≡ reading_at q self.old }
         ensures ok { OnOk result ((r : Reading) × (r.task.value ≡ task) × SetsReading conn (Some r) self.old self.new) }
     {
         let task = Box::new(alloc, task)?;
@@ -163,12 +155,12 @@ impl Tasks {
         Ok(())
     }
 
-    /// Takes the connection's query out.
+    /// Takes the connection's query out, and drops its reading.
     pub(crate) fn take(&mut self, conn: u32) -> Option<RunningQuery>
         ensures was { result ≡ task_at conn self.old }
-        ensures sets { SetsTask conn None self.old self.new }
-        ensures same { self.new.readings.entries ≡ self.old.readings.entries }
+        ensures clears { Clears conn self.old self.new }
     {
+        self.readings.remove(&conn);
         self.asked.remove(&conn)
     }
 
@@ -182,6 +174,7 @@ impl Tasks {
     ) -> Result<(), AllocError>
         ensures ok { OnOk result ((a : RunningQuery) × IsAsked a request.now × (a.task ≡ task) × SetsTask conn (Some a) self.old self.new) }
         ensures err { OnErr result (self.new.asked.entries ≡ self.old.asked.entries) }
+        ensures same { self.new.readings.entries ≡ self.old.readings.entries }
     {
         let Some((collection, query)) = query_asked(&request.command) else {
             return Err(AllocError);
@@ -236,20 +229,14 @@ pub(crate) fn task_for(asked: Option<RunningQuery>, request: &Placed<'_>) -> Opt
     ensures only { asked ≡ None → result ≡ None }
     ensures same { (a : RunningQuery) → asked ≡ Some a → IsAsked a request.now → result ≡ Some a.task }
 {
-    let Some((collection, query)) = query_asked(&request.command) else {
-        return None;
-    };
-    match asked {
-        Some(asked) => {
-            if asked.place == request.place
-                && asked.collection.as_slice() == collection.bytes
-                && asked.query.as_slice() == query
-            {
-                Some(asked.task)
-            } else {
-                None
-            }
-        }
-        None => None,
+    let (collection, query) = query_asked(&request.command)?;
+    let asked = asked?;
+    if asked.place == request.place
+        && asked.collection.as_slice() == collection.bytes
+        && asked.query.as_slice() == query
+    {
+        Some(asked.task)
+    } else {
+        None
     }
 }
