@@ -12,4 +12,5 @@ pub mod Sent
 pub mod Once
 pub mod Standing
 pub mod UnderWay
+pub mod WorkLeft
 pub mod Spending

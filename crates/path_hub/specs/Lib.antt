@@ -5,6 +5,7 @@ pub mod Sessions
 pub mod HubState
 pub mod Into
 pub mod UnderWay
+pub mod WorkLeft
 pub mod Headline
 pub mod Wires
 pub mod Serving

@@ -1,6 +1,7 @@
 //! What follows from the contracts of the hub: each function does nothing, and its contract is the law.
 ghost use Rattle.path_hub.specs.Laws.{ServedBytes, ServedOnce, RunsApart};
 ghost use Rattle.path_hub.specs.Standing.{Standing};
+ghost use Rattle.path_hub.specs.WorkLeft.{WorkIsLeft};
 
 use request_replies::{tenants_are_apart, told_once};
 use wire_frames::splits_from_the_front;
@@ -31,3 +32,9 @@ pub fn cuts_do_not_matter()
 {
     told_once();
 }
+
+/// What is left of the first request on a connection falls with each share of work on it, and is none behind a reply and where it is given up.
+/// What is left of the others' stays.
+pub fn work_is_left()
+    ensures { WorkIsLeft }
+{}

@@ -16,7 +16,9 @@ mod wire;
 pub use event::{Event, Reply};
 pub use fault::{ConnectFault, HubFault, RunFault, TakeFault};
 pub use hub::{Hub, run};
-pub use laws::{cuts_do_not_matter, runs_apart, served_bytes, sessions_stand_in_streams};
+pub use laws::{
+    cuts_do_not_matter, runs_apart, served_bytes, sessions_stand_in_streams, work_is_left,
+};
 pub use memory_wire::{Call, MemoryWire, Moved};
 pub use serving::serve_connection;
 pub use sharing::place_asked;
