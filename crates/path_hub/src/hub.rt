@@ -1,5 +1,5 @@
 //! The hub: the sessions of all connections, and all tenants.
-ghost use Rattle.std.specs.Prelude.{◌≡◌, OnOk, OnErr, None, IfOk, IfErr, [], length, is_some, Some, ◌↔◌, IsErrOf, IsSome, false};
+ghost use Rattle.std.specs.Prelude.{◌≡◌, OnOk, OnErr, None, IfOk, IfErr, [], is_some, Some, ◌↔◌, IsErrOf, IsSome, false};
 ghost use Rattle.std.specs.Bool.{MatchBool};
 ghost use Rattle.std.specs.Option.{option_map_or};
 ghost use Rattle.wire_frames.specs.Framing.{fresh as fresh_framing};
@@ -82,18 +82,8 @@ impl Hub {
         }
     }
 
-    /// The number of bytes that came on the connection and are not answered: those of whole frames and of the next frame's part. 0 if it
-    /// has no session.
-    pub fn waiting(&self, conn: u32) -> usize
-        ensures { result ≡ option_map_or (λ f. length f.waiting) (session conn self.now.sessions) 0 }
-    {
-        match self.sessions.get(&conn) {
-            Some(framer) => framer.waiting(),
-            None => 0,
-        }
-    }
-
-    /// The bytes that came on the connection and are not answered. None if it has no session.
+    /// The bytes that came on the connection and are not answered: those of whole frames and of the next frame's part. None if it has no
+    /// session.
     pub fn waiting_bytes(&self, conn: u32) -> &[u8]
         ensures { result.now ≡ option_map_or (λ f. f.waiting) (session conn self.now.sessions) [] }
     {
@@ -181,6 +171,9 @@ impl Hub {
     pub fn waits(&self, conn: u32, tasks: &Tasks) -> bool
         ensures { result ≡ is_first_held conn self.now tasks.now }
     {
+        if tasks.is_idle() {
+            return false;
+        }
         match self.sessions.get(&conn) {
             Some(framer) => waits_first(framer, &self.tenants, tasks, conn),
             None => false,

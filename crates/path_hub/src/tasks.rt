@@ -1,6 +1,6 @@
 //! Queries and readings under way, which are no part of a hub's state.
 
-ghost use Rattle.std.specs.Prelude.{◌≡◌, ◌≢◌, ◌<◌, ℕ, IfSome, OnOk, OnErr, None, Some, []};
+ghost use Rattle.std.specs.Prelude.{◌≡◌, ◌≢◌, ◌<◌, ◌↔◌, ℕ, IfSome, IsTrue, OnOk, OnErr, None, Some, []};
 ghost use Rattle.std.specs.Option.{option_map};
 ghost use Rattle.tenant_map.specs.Tenancy.{Tenancy};
 ghost use Rattle.wire_frames.specs.Readings.{asked_of};
@@ -82,6 +82,13 @@ impl Tasks {
         ensures on_way { (t : Tenancy) → AreOnWay t self.old → AreOnWay t self.new }
     {
         self.take(conn);
+    }
+
+    /// Whether nothing is under way.
+    pub(crate) fn is_idle(&self) -> bool
+        ensures { IsTrue result ↔ ((self.now.asked.entries ≡ []) × (self.now.readings.entries ≡ [])) }
+    {
+        self.asked.is_empty() && self.readings.is_empty()
     }
 
     /// Whether another connection has a query of the tenant under way.
