@@ -7,6 +7,9 @@ use crate::trial::Trial;
 use path_hub::{Advance, Hub, Tasks};
 use std::alloc::Global;
 
+// The factor by which names are hashed: any number does.
+const FACTOR: u64 = 0xD6E8_FEB8_6659_FD93;
+
 /// A puts `[2]` at c/d and `[3]` at c/e, and asks `$[0]` of c.
 const PUTS_AND_QUERY: &[u8] = b"\
 \0\0\0\x1c\x01\0\0\0\x01\x00\x11\x22\x33\x44\x55\x66\x77\x88\x99\xaa\xbb\xcc\xdd\xee\xff\x01c\x01d[2]\
@@ -113,7 +116,7 @@ fn answers_others_between_shares(alloc: Global) -> Trial {
     let Some(mut hub) = asked(alloc, PUTS_AND_QUERY) else {
         return Trial::unprepared();
     };
-    let mut tasks = Tasks::new(alloc);
+    let mut tasks = Tasks::new(alloc, FACTOR);
     let mut out = Vec::new(alloc);
     let mut others = Vec::new(alloc);
     let mut trial = Trial::new();
@@ -137,7 +140,7 @@ fn answers_others_within_a_document(alloc: Global) -> Trial {
     let Some(mut hub) = asked(alloc, PUT_AND_QUERY) else {
         return Trial::unprepared();
     };
-    let mut tasks = Tasks::new(alloc);
+    let mut tasks = Tasks::new(alloc, FACTOR);
     let mut out = Vec::new(alloc);
     let mut others = Vec::new(alloc);
     let mut trial = Trial::new();

@@ -12,6 +12,9 @@ use tape_select::BUDGET;
 use tenant_store::Tenants;
 use wire_frames::{Framer, Front, splits_from_the_front};
 
+// By which the names of long texts are hashed: one connection alone has no strangers.
+const FACTOR: u64 = 0x9E37_79B9_7F4A_7C15;
+
 /// Takes one frame or fault of a connection and answers it: a share with nothing under way, of so many units that nothing is left. There is
 /// `false` where none is whole. Only where one is, growth may be refused, and that changes nothing.
 pub fn answer_next(
@@ -29,7 +32,7 @@ pub fn answer_next(
     ensures same_tenants { OnErr result (tenants.new ≡ tenants.old) }
     ensures same_out { OnErr result (out.new.items ≡ out.old.items) }
 {
-    let mut tasks = Tasks::new(alloc);
+    let mut tasks = Tasks::new(alloc, FACTOR);
     let work = Work {
         alloc,
         conn: 0,

@@ -61,11 +61,13 @@ pub(crate) enum Read {
 pub struct Tasks {
     asked: BTreeMap<u32, RunningQuery>,
     readings: BTreeMap<u32, Reading>,
+    // By which the names of texts that are read are hashed.
+    factor: u64,
 }
 
 impl Tasks {
-    /// Nothing under way.
-    pub fn new(alloc: Global) -> Tasks
+    /// Nothing under way. The names of texts that are read a share at a time are hashed by the factor: whoever does not know it cannot make names that meet.
+    pub fn new(alloc: Global, factor: u64) -> Tasks
         ensures none { result.asked.entries ≡ [] }
         ensures none_read { result.readings.entries ≡ [] }
         ensures on_way { (t : Tenancy) → AreOnWay t result }
@@ -73,6 +75,7 @@ impl Tasks {
         Tasks {
             asked: BTreeMap::new(alloc),
             readings: BTreeMap::new(alloc),
+            factor,
         }
     }
 
@@ -136,7 +139,7 @@ impl Tasks {
         ensures further { result ≡ Read.Further → ReadsOn conn self.old self.new }
     {
         let reading = self.readings.remove(&conn);
-        match read_further(alloc, reading, text, places) {
+        match read_further(alloc, reading, text, places, self.factor) {
             Some(Progress::Paused(task)) => match self.keep_reading(alloc, conn, place, task) {
                 Ok(()) => Read::Further,
                 Err(_) => Read::Over(None),
@@ -202,12 +205,13 @@ fn read_further(
     reading: Option<Reading>,
     text: &[u8],
     places: usize,
+    factor: u64,
 ) -> Option<Progress>
     ensures { (r : Reading) → reading ≡ Some r → IfSome result (GoesOn r.task.value places) }
 {
     match reading {
         Some(reading) => Some(Box::into_inner(reading.task).step(alloc, places)),
-        None => match ReadTask::begin(alloc, text) {
+        None => match ReadTask::begin(alloc, text, factor) {
             Ok(task) => Some(task.step(alloc, places)),
             Err(_) => None,
         },
