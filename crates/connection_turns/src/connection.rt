@@ -1,5 +1,6 @@
 //! One connection and what is known of it.
 ghost use Rattle.std.specs.Prelude.{◌≡◌, ◌<◌, ◌≤◌, ◌||◌, length, Bool, Some, None, false, IsTrue, if◌then◌else◌};
+ghost use Rattle.outbox.specs.Appends.{OthersKeep};
 ghost use Rattle.outbox.specs.Lines.{fresh, is_over};
 ghost use Rattle.outbox.specs.Traffic.{HasMoved, IsReadOn};
 ghost use Rattle.outbox.specs.Turns as turns;
@@ -239,13 +240,14 @@ impl<S: Peer> Connection<S> {
     ) -> (usize, usize)
         requires some { 0 < most }
         requires within { most ≤ length buffer.old }
-        ensures turn { Progresses (C.steps.takes conn) (C.steps.answers conn) (can_go_by plan self.old.ready self.old.outbox) (moment_of S.told core.old self.old) (moment_of S.told core.new self.new) }
+        ensures turn { Progresses (C.steps.takes conn) (C.steps.answers conn) (can_go_by plan self.old.ready self.old.outbox) (moment_of S.told (C.steps.seen core.old) self.old) (moment_of S.told (C.steps.seen core.new) self.new) }
         ensures moved { HasMoved (wire_of S.told self.old) (wire_of S.told self.new) result.0 result.1 }
-        ensures owed { Adds plan (C.steps.answers conn) core.old (length self.old.outbox.owed) (length self.new.outbox.owed) }
+        ensures owed { Adds plan (C.steps.answers conn) (C.steps.seen core.old) (length self.old.outbox.owed) (length self.new.outbox.owed) }
         ensures writes { plan ≡ TurnPlan.Write → core.new ≡ core.old }
         ensures phase { self.new.phase ≡ self.old.phase }
         ensures due { KeepsTurn self.old self.new }
         ensures claim { self.new.claim ≡ self.old.claim }
+        ensures others { OthersKeep C.steps.left conn core.old core.new }
     {
         core.begin(share);
         let counts = self.go(core, conn, &mut buffer[..most], plan);
@@ -265,13 +267,14 @@ impl<S: Peer> Connection<S> {
         plan: TurnPlan,
     ) -> (usize, usize)
         requires { 0 < length buffer.old }
-        ensures turn { Progresses (C.steps.takes conn) (C.steps.answers conn) (can_go_by plan self.old.ready self.old.outbox) (moment_of S.told core.old self.old) (moment_of S.told core.new self.new) }
+        ensures turn { Progresses (C.steps.takes conn) (C.steps.answers conn) (can_go_by plan self.old.ready self.old.outbox) (moment_of S.told (C.steps.seen core.old) self.old) (moment_of S.told (C.steps.seen core.new) self.new) }
         ensures moved { HasMoved (wire_of S.told self.old) (wire_of S.told self.new) result.0 result.1 }
-        ensures owed { Adds plan (C.steps.answers conn) core.old (length self.old.outbox.owed) (length self.new.outbox.owed) }
+        ensures owed { Adds plan (C.steps.answers conn) (C.steps.seen core.old) (length self.old.outbox.owed) (length self.new.outbox.owed) }
         ensures writes { plan ≡ TurnPlan.Write → core.new ≡ core.old }
         ensures phase { self.new.phase ≡ self.old.phase }
         ensures due { KeepsTurn self.old self.new }
         ensures claim { self.new.claim ≡ self.old.claim }
+        ensures others { OthersKeep C.steps.left conn core.old core.new }
     {
         match plan {
             TurnPlan::Read => (self.read(core, conn, buffer), 0),
@@ -302,12 +305,13 @@ impl<S: Peer> Connection<S> {
         buffer: &mut [u8],
     ) -> (usize, usize)
         requires { 0 < length buffer.old }
-        ensures turn { Progresses (C.steps.takes conn) (C.steps.answers conn) (turns.can_go_on self.old.ready self.old.outbox) (moment_of S.told core.old self.old) (moment_of S.told core.new self.new) }
+        ensures turn { Progresses (C.steps.takes conn) (C.steps.answers conn) (turns.can_go_on self.old.ready self.old.outbox) (moment_of S.told (C.steps.seen core.old) self.old) (moment_of S.told (C.steps.seen core.new) self.new) }
         ensures moved { HasMoved (wire_of S.told self.old) (wire_of S.told self.new) result.0 result.1 }
-        ensures owed { Adds TurnPlan.All (C.steps.answers conn) core.old (length self.old.outbox.owed) (length self.new.outbox.owed) }
+        ensures owed { Adds TurnPlan.All (C.steps.answers conn) (C.steps.seen core.old) (length self.old.outbox.owed) (length self.new.outbox.owed) }
         ensures phase { self.new.phase ≡ self.old.phase }
         ensures due { KeepsTurn self.old self.new }
         ensures claim { self.new.claim ≡ self.old.claim }
+        ensures others { OthersKeep C.steps.left conn core.old core.new }
     {
         let counts = turn(
             &mut self.outbox,
@@ -323,12 +327,13 @@ impl<S: Peer> Connection<S> {
 
     // Answers one request, and writes. It does not read, so that the reply is the one whose length was told.
     fn answer<C: LoopCore, T: Time + Drop>(&mut self, core: &mut Counted<C, T>, conn: u32) -> usize
-        ensures turn { Progresses (C.steps.takes conn) (C.steps.answers conn) (turns.can_answer self.old.ready self.old.outbox) (moment_of S.told core.old self.old) (moment_of S.told core.new self.new) }
+        ensures turn { Progresses (C.steps.takes conn) (C.steps.answers conn) (turns.can_answer self.old.ready self.old.outbox) (moment_of S.told (C.steps.seen core.old) self.old) (moment_of S.told (C.steps.seen core.new) self.new) }
         ensures moved { HasMoved (wire_of S.told self.old) (wire_of S.told self.new) 0 result }
-        ensures owed { Adds TurnPlan.Answer (C.steps.answers conn) core.old (length self.old.outbox.owed) (length self.new.outbox.owed) }
+        ensures owed { Adds TurnPlan.Answer (C.steps.answers conn) (C.steps.seen core.old) (length self.old.outbox.owed) (length self.new.outbox.owed) }
         ensures phase { self.new.phase ≡ self.old.phase }
         ensures due { KeepsTurn self.old self.new }
         ensures claim { self.new.claim ≡ self.old.claim }
+        ensures others { OthersKeep C.steps.left conn core.old core.new }
     {
         reply(
             &mut self.outbox,
@@ -347,12 +352,13 @@ impl<S: Peer> Connection<S> {
         buffer: &mut [u8],
     ) -> usize
         requires { 0 < length buffer.old }
-        ensures turn { Progresses (C.steps.takes conn) (C.steps.answers conn) (turns.can_read self.old.ready self.old.outbox) (moment_of S.told core.old self.old) (moment_of S.told core.new self.new) }
+        ensures turn { Progresses (C.steps.takes conn) (C.steps.answers conn) (turns.can_read self.old.ready self.old.outbox) (moment_of S.told (C.steps.seen core.old) self.old) (moment_of S.told (C.steps.seen core.new) self.new) }
         ensures moved { HasMoved (wire_of S.told self.old) (wire_of S.told self.new) result 0 }
         ensures owed { length self.new.outbox.owed ≤ length self.old.outbox.owed }
         ensures phase { self.new.phase ≡ self.old.phase }
         ensures due { KeepsTurn self.old self.new }
         ensures claim { self.new.claim ≡ self.old.claim }
+        ensures others { OthersKeep C.steps.left conn core.old core.new }
     {
         let count = feed(
             &mut self.outbox,

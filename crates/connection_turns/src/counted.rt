@@ -1,6 +1,7 @@
 //! A core in a turn: what it may do, what it did, and the time that it took.
-ghost use Rattle.std.specs.Prelude.{◌≡◌};
+ghost use Rattle.std.specs.Prelude.{◌≡◌, None};
 ghost use Rattle.std.specs.Bool.{MatchBool};
+ghost use Rattle.outbox.specs.Appends.{OthersKeep};
 
 use crate::answered::{Answered, Work};
 use crate::journal::Slow;
@@ -88,21 +89,26 @@ impl<C: LoopCore, T: Time + Drop> Counted<C, T> {
 
     /// Opens a connection's session, and tells whether that was not refused.
     pub fn connect(&mut self, conn: u32) -> bool
-        ensures { MatchBool result (C.steps.opens conn self.old self.new) (self.new ≡ self.old) }
+        ensures opened { MatchBool result (C.steps.opens conn (C.steps.seen self.old) (C.steps.seen self.new)) (self.new ≡ self.old) }
+        ensures others { OthersKeep C.steps.left conn self.old self.new }
     {
         self.core.connect(conn)
     }
 
-    /// Ends a connection's session.
+    /// Ends a connection's session, and the work that it has under way.
     pub fn disconnect(&mut self, conn: u32)
-        ensures { C.steps.closes conn self.old self.new }
+        ensures closed { C.steps.closes conn (C.steps.seen self.old) (C.steps.seen self.new) }
+        ensures ended { C.steps.left conn self.new ≡ None }
+        ensures others { OthersKeep C.steps.left conn self.old self.new }
     {
         self.core.disconnect(conn);
     }
 
-    /// Gives up the work on the query that a connection has under way.
+    /// Gives up the work that a connection has under way.
     pub fn give_up(&mut self, conn: u32)
-        ensures { self.new ≡ self.old }
+        ensures seen { C.steps.seen self.new ≡ C.steps.seen self.old }
+        ensures ended { C.steps.left conn self.new ≡ None }
+        ensures others { OthersKeep C.steps.left conn self.old self.new }
     {
         self.core.give_up(conn);
     }
@@ -170,6 +176,10 @@ impl<C: LoopCore, T: Time + Drop> Counted<C, T> {
 }
 
 impl<C: LoopCore, T: Time + Drop> Core for Counted<C, T> {
+    ghost Seen = { C.steps.Seen };
+
+    ghost seen = { C.steps.seen };
+
     ghost takes = { C.steps.takes };
 
     ghost answers = { C.steps.answers };
@@ -177,6 +187,8 @@ impl<C: LoopCore, T: Time + Drop> Core for Counted<C, T> {
     ghost idle = { C.idle };
 
     ghost over = { C.over };
+
+    ghost left = { C.steps.left };
 
     fn take(&mut self, conn: u32, piece: &[u8]) -> bool {
         self.share.work.since = self.time.now();

@@ -1,10 +1,10 @@
 //! What a loop asks of the core that answers its connections.
-ghost use Rattle.std.specs.Prelude.{◌≡◌, ◌&&◌, ◌||◌, ℕ, Bool, IsTrue, List, Option};
+ghost use Rattle.std.specs.Prelude.{◌≡◌, ◌&&◌, ◌||◌, ℕ, Bool, IsFalse, IsTrue, List, None, Option};
 ghost use Rattle.std.specs.Bool.{MatchBool};
 ghost use Rattle.admin_pages.specs.declared.counted.Metrics.{Metrics};
-ghost use Rattle.connection_turns.specs.Cores.{CoreSteps, IsMost};
+ghost use Rattle.connection_turns.specs.Cores.{CoreSteps, IsLess, IsMost};
 ghost use Rattle.connection_turns.specs.declared.ahead.Ahead.{Ahead};
-ghost use Rattle.outbox.specs.Appends.{Appends};
+ghost use Rattle.outbox.specs.Appends.{Appends, OthersKeep};
 ghost use Rattle.tenant_map.specs.declared.usage.Usage.{Usage};
 
 use crate::ahead::Ahead;
@@ -20,10 +20,10 @@ pub trait LoopCore: Drop {
     ghost steps: { CoreSteps Self };
 
     /// No request of the connection waits.
-    ghost idle: { ℕ → Self → Type 0 };
+    ghost idle: { ℕ → steps.Seen → Type 0 };
 
     /// No further request of the connection is answered.
-    ghost over: { ℕ → Self → Bool };
+    ghost over: { ℕ → steps.Seen → Bool };
 
     /// What it has counted.
     ghost counted: { Self → Metrics };
@@ -34,8 +34,8 @@ pub trait LoopCore: Drop {
     /// The place of the tenant whose key is in front of what waits on a connection.
     ghost fronts: { ℕ → Self → Option ℕ };
 
-    /// Whether the request that is answered next on a connection is one that may wait for a query under way.
-    ghost may_wait: { ℕ → Self → Bool };
+    /// Whether the request that is answered next on a connection waits for what others have under way.
+    ghost waits: { ℕ → Self → Bool };
 
     /// Whether the request that is answered next on a connection may take long.
     ghost longs: { ℕ → Self → Bool };
@@ -45,33 +45,41 @@ pub trait LoopCore: Drop {
 
     /// Opens a connection's session, and tells whether that was not refused.
     fn connect(&mut self, conn: u32) -> bool
-        ensures { MatchBool result (steps.opens conn self.old self.new) (self.new ≡ self.old) };
+        ensures opened { MatchBool result (steps.opens conn (steps.seen self.old) (steps.seen self.new)) (self.new ≡ self.old) }
+        ensures others { OthersKeep steps.left conn self.old self.new };
 
-    /// Ends a connection's session.
+    /// Ends a connection's session, and the work that it has under way.
     fn disconnect(&mut self, conn: u32)
-        ensures { steps.closes conn self.old self.new };
+        ensures closed { steps.closes conn (steps.seen self.old) (steps.seen self.new) }
+        ensures ended { steps.left conn self.new ≡ None }
+        ensures others { OthersKeep steps.left conn self.old self.new };
 
     /// Takes a piece, which is not empty. `false` if it declines the piece and changes nothing.
     fn take(&mut self, conn: u32, piece: &[u8]) -> bool
-        ensures { MatchBool result (steps.takes conn self.old piece.now self.new × (over conn self.new ≡ over conn self.old)) (self.new ≡ self.old) };
+        ensures taken { MatchBool result (steps.takes conn (steps.seen self.old) piece.now (steps.seen self.new) × (over conn (steps.seen self.new) ≡ over conn (steps.seen self.old))) (self.new ≡ self.old) }
+        ensures others { OthersKeep steps.left conn self.old self.new };
 
-    /// Appends the reply to the connection's next request, or does a share of the work on it. It works only where work goes on, where the request may wait for others,
-    /// or where it may take long and the turn is brief.
+    /// Appends the reply to the connection's next request, or does a share of the work on it, which leaves less of it. Nothing is done where the request waits for
+    /// others, or where it may take long and the turn is brief.
     fn answer<T: Time>(&mut self, conn: u32, work: Work, time: &T, out: &mut Vec<u8>) -> Answered
-        ensures appends { Appends (steps.answers conn) (idle conn) (over conn) result.step self.old out.old.items out.new.items self.new }
-        ensures working { result.step ≡ Step.Working → IsTrue (result.has_gone_on || (may_wait conn self.old || (work.is_brief && longs conn self.old))) };
+        ensures appends { Appends (steps.answers conn) (idle conn) (over conn) result.step (steps.seen self.old) out.old.items out.new.items (steps.seen self.new) }
+        ensures less { result.step ≡ Step.Working → IsTrue result.has_gone_on → IsLess (steps.left conn self.old) (steps.left conn self.new) }
+        ensures waiting { result.step ≡ Step.Working → IsFalse result.has_gone_on → IsTrue (waits conn self.old || (work.is_brief && longs conn self.old)) × (self.new ≡ self.old) }
+        ensures others { OthersKeep steps.left conn self.old self.new };
 
     /// What is in front on a connection.
     fn front(&self, conn: u32) -> Ahead
         ensures ahead { aheads conn self.now result }
-        ensures most { IsMost (steps.answers conn) self.now result.most_reply }
+        ensures most { IsMost (steps.answers conn) (steps.seen self.now) result.most_reply }
         ensures tenant { result.tenant ≡ fronts conn self.now }
-        ensures waits { IsTrue result.waits → IsTrue (may_wait conn self.now) }
+        ensures waits { result.waits ≡ waits conn self.now }
         ensures long { result.is_long ≡ longs conn self.now };
 
-    /// Gives up the work on the query that a connection has under way.
+    /// Gives up the work that a connection has under way.
     fn give_up(&mut self, conn: u32)
-        ensures { self.new ≡ self.old };
+        ensures seen { steps.seen self.new ≡ steps.seen self.old }
+        ensures ended { steps.left conn self.new ≡ None }
+        ensures others { OthersKeep steps.left conn self.old self.new };
 
     /// What was counted.
     fn metrics(&self) -> &Metrics

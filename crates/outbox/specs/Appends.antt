@@ -1,5 +1,5 @@
 -- How the next request is answered: this project's own.
-use Rattle.std.specs.Prelude.{◌≡◌, ℕ, List, ◌++◌, Bool, true, false}
+use Rattle.std.specs.Prelude.{◌≡◌, ◌≢◌, ℕ, List, ◌++◌, Bool, true, false, Option}
 use Rattle.outbox.specs.Lines.{Line}
 use Rattle.outbox.specs.declared.answers.Step.{Step}
 use Rattle.outbox.specs.declared.answers.Step.TheVariants.{Replied, Idle, Last, Refused, Working}
@@ -26,3 +26,7 @@ with_reply line reply = record line { owed = line.owed ++ reply }
 -- what a line owes behind a step
 abbrev pub Owes : {C : Type 0} → (C → List ℕ → C → Type 0) → (C → Type 0) → (C → Bool) → Step → C → Line → Line → C → Type 0
 Owes answers idle over step old before after new = Steps answers idle over with_reply step old before after new
+
+-- what other connections have under way stays as it is
+abbrev pub OthersKeep : {C : Type 0} → (ℕ → C → Option ℕ) → (conn : ℕ) → C → C → Type 0
+OthersKeep left conn old new = (q : ℕ) → q ≢ conn → left q new ≡ left q old

@@ -1,7 +1,7 @@
 //! The server behind the connections.
-ghost use Rattle.std.specs.Prelude.{◌≡◌, ℕ, List, Bool};
+ghost use Rattle.std.specs.Prelude.{◌≡◌, ℕ, List, Bool, Option};
 ghost use Rattle.std.specs.Bool.{MatchBool};
-ghost use Rattle.outbox.specs.Appends.{Appends};
+ghost use Rattle.outbox.specs.Appends.{Appends, OthersKeep};
 
 /// The outcome of [`Core::answer_next`].
 #[derive(Clone, Copy, Debug, PartialEq, Eq)]
@@ -20,25 +20,36 @@ pub enum Step {
 
 /// A server of many connections: it takes pieces of their streams and answers the requests in them one at a time.
 pub trait Core {
-    /// The states before and after a piece of a connection's stream is taken.
-    ghost takes: { ℕ → Self → List ℕ → Self → Type 0 };
+    /// All that its replies rest on. Work that is under way is no part of it.
+    ghost Seen: { Type 0 };
 
-    /// The states before and after a connection's next request is answered with a reply.
-    ghost answers: { ℕ → Self → List ℕ → Self → Type 0 };
+    /// What is seen of it.
+    ghost seen: { Self → Seen };
+
+    /// What is seen before and after a piece of a connection's stream is taken.
+    ghost takes: { ℕ → Seen → List ℕ → Seen → Type 0 };
+
+    /// What is seen before and after a connection's next request is answered with a reply.
+    ghost answers: { ℕ → Seen → List ℕ → Seen → Type 0 };
 
     /// No request of the connection waits.
-    ghost idle: { ℕ → Self → Type 0 };
+    ghost idle: { ℕ → Seen → Type 0 };
 
     /// No further request of the connection is answered.
-    ghost over: { ℕ → Self → Bool };
+    ghost over: { ℕ → Seen → Bool };
+
+    /// How much is left of the work that a connection has under way.
+    ghost left: { ℕ → Self → Option ℕ };
 
     /// Takes a piece, which is not empty. `false` if it declines the piece and changes nothing.
     fn take(&mut self, conn: u32, piece: &[u8]) -> bool
-        ensures { MatchBool result (takes conn self.old piece.now self.new × (over conn self.new ≡ over conn self.old)) (self.new ≡ self.old) };
+        ensures taken { MatchBool result (takes conn (seen self.old) piece.now (seen self.new) × (over conn (seen self.new) ≡ over conn (seen self.old))) (self.new ≡ self.old) }
+        ensures others { OthersKeep left conn self.old self.new };
 
     /// Appends the reply to the connection's next request.
     fn answer_next(&mut self, conn: u32, out: &mut Vec<u8>) -> Step
-        ensures { Appends (answers conn) (idle conn) (over conn) result self.old out.old.items out.new.items self.new };
+        ensures appends { Appends (answers conn) (idle conn) (over conn) result (seen self.old) out.old.items out.new.items (seen self.new) }
+        ensures others { OthersKeep left conn self.old self.new };
 
     /// Whether the turn ends although requests may wait, for instance because it took long.
     fn rests(&self) -> bool {

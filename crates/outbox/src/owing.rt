@@ -106,7 +106,8 @@ impl Outbox {
 
     /// Has the next request answered, and appends its reply to the bytes owed.
     pub fn answer_next<C: Core>(&mut self, core: &mut C, conn: u32) -> Step
-        ensures { appends.Owes (C.answers conn) (C.idle conn) (C.over conn) result core.old self.old self.new core.new }
+        ensures owes { appends.Owes (C.answers conn) (C.idle conn) (C.over conn) result (C.seen core.old) self.old self.new (C.seen core.new) }
+        ensures others { appends.OthersKeep C.left conn core.old core.new }
     {
         self.shift();
         let step = core.answer_next(conn, &mut self.bytes);

@@ -1,5 +1,6 @@
 //! One turn on one connection.
 ghost use Rattle.std.specs.Prelude.{◌<◌, length, Option};
+ghost use Rattle.outbox.specs.Appends.{OthersKeep};
 ghost use Rattle.outbox.specs.Traffic.{HasMoved, Traffic};
 ghost use Rattle.outbox.specs.Turns.{Turned, Flushes, here, can_read, can_answer, can_go_on, can_reply, most_requests};
 
@@ -26,8 +27,9 @@ pub fn turn<W: Wire, C: Core>(
 ) -> (usize, usize)
     requires { 0 < length buffer.old }
     ensures turned { Turned 1 most_requests (C.takes conn) (C.answers conn) (C.idle conn) (C.over conn) can_go_on
-        (here outbox.old (W.told wire.old) core.old ready.old) (here outbox.new (W.told wire.new) core.new ready.new) }
+        (here outbox.old (W.told wire.old) (C.seen core.old) ready.old) (here outbox.new (W.told wire.new) (C.seen core.new) ready.new) }
     ensures moved { HasMoved (W.told wire.old) (W.told wire.new) result.0 result.1 }
+    ensures others { OthersKeep C.left conn core.old core.new }
 {
     let before = flush(outbox, wire, ready);
     let read = feed(outbox, wire, core, conn, buffer, ready);
@@ -47,8 +49,9 @@ pub fn reply<W: Wire, C: Core>(
     ready: &mut Readiness,
 ) -> usize
     ensures turned { Turned 0 1 (C.takes conn) (C.answers conn) (C.idle conn) (C.over conn) can_reply
-        (here outbox.old (W.told wire.old) core.old ready.old) (here outbox.new (W.told wire.new) core.new ready.new) }
+        (here outbox.old (W.told wire.old) (C.seen core.old) ready.old) (here outbox.new (W.told wire.new) (C.seen core.new) ready.new) }
     ensures moved { HasMoved (W.told wire.old) (W.told wire.new) 0 result }
+    ensures others { OthersKeep C.left conn core.old core.new }
 {
     let before = flush(outbox, wire, ready);
     answer_one(outbox, core, conn, ready);
@@ -96,8 +99,9 @@ pub fn feed<W: Wire, C: Core>(
 ) -> usize
     requires { 0 < length buffer.old }
     ensures turned { Turned 1 0 (C.takes conn) (C.answers conn) (C.idle conn) (C.over conn) can_read
-        (here outbox.old (W.told wire.old) core.old ready.old) (here outbox.new (W.told wire.new) core.new ready.new) }
+        (here outbox.old (W.told wire.old) (C.seen core.old) ready.old) (here outbox.new (W.told wire.new) (C.seen core.new) ready.new) }
     ensures moved { HasMoved (W.told wire.old) (W.told wire.new) result 0 }
+    ensures others { OthersKeep C.left conn core.old core.new }
 {
     if !ready.can_read(outbox) {
         return 0;
@@ -129,8 +133,9 @@ pub fn feed<W: Wire, C: Core>(
 
 // Answers some of the requests that wait.
 fn answer<C: Core>(outbox: &mut Outbox, core: &mut C, conn: u32, ready: &mut Readiness)
-    ensures { (wire : Option Traffic) → Turned 0 most_requests (C.takes conn) (C.answers conn) (C.idle conn) (C.over conn) can_answer
-        (here outbox.old wire core.old ready.old) (here outbox.new wire core.new ready.new) }
+    ensures turned { (wire : Option Traffic) → Turned 0 most_requests (C.takes conn) (C.answers conn) (C.idle conn) (C.over conn) can_answer
+        (here outbox.old wire (C.seen core.old) ready.old) (here outbox.new wire (C.seen core.new) ready.new) }
+    ensures others { OthersKeep C.left conn core.old core.new }
 {
     answer_one(outbox, core, conn, ready);
     'requests: for _ in 1..REQUESTS {
@@ -146,8 +151,9 @@ fn answer<C: Core>(outbox: &mut Outbox, core: &mut C, conn: u32, ready: &mut Rea
 
 // Answers one of them.
 fn answer_one<C: Core>(outbox: &mut Outbox, core: &mut C, conn: u32, ready: &mut Readiness)
-    ensures { (wire : Option Traffic) → Turned 0 1 (C.takes conn) (C.answers conn) (C.idle conn) (C.over conn) can_answer
-        (here outbox.old wire core.old ready.old) (here outbox.new wire core.new ready.new) }
+    ensures turned { (wire : Option Traffic) → Turned 0 1 (C.takes conn) (C.answers conn) (C.idle conn) (C.over conn) can_answer
+        (here outbox.old wire (C.seen core.old) ready.old) (here outbox.new wire (C.seen core.new) ready.new) }
+    ensures others { OthersKeep C.left conn core.old core.new }
 {
     if !ready.can_answer(outbox) {
         return;

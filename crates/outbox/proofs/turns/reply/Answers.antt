@@ -7,13 +7,13 @@ use Rattle.outbox.proofs.turns.reply.Goals as goal
 
 pub returns-clause-turned : goal.returns-clause-turned
 returns-clause-turned g c =
-    three _ _ _ _ (here c.args.outbox.now (g.W.Wire.told c.args.wire.now) c.args.core.now c.args.ready.now)
-    (here c.flush-before.new.outbox (g.W.Wire.told c.flush-before.new.wire) c.args.core.now c.flush-before.new.ready)
-    (here c.answer_one.new.outbox (g.W.Wire.told c.flush-before.new.wire) c.answer_one.new.core c.answer_one.new.ready)
-    (here c.flush-behind.new.outbox (g.W.Wire.told c.flush-behind.new.wire) c.answer_one.new.core c.flush-behind.new.ready)
-    (flushed _ _ _ _ c.args.outbox.now c.flush-before.new.outbox (g.W.Wire.told c.args.wire.now) (g.W.Wire.told c.flush-before.new.wire) c.args.ready.now c.flush-before.new.ready c.args.core.now c.flush-before.ensures.flushes)
-    (c.answer_one.ensures (g.W.Wire.told c.flush-before.new.wire))
-    (flushed _ _ _ _ c.answer_one.new.outbox c.flush-behind.new.outbox (g.W.Wire.told c.flush-before.new.wire) (g.W.Wire.told c.flush-behind.new.wire) c.answer_one.new.ready c.flush-behind.new.ready c.answer_one.new.core c.flush-behind.ensures.flushes)
+    three _ _ _ _ (here c.args.outbox.now (g.W.Wire.told c.args.wire.now) (g.C.Core.seen c.args.core.now) c.args.ready.now)
+    (here c.flush-before.new.outbox (g.W.Wire.told c.flush-before.new.wire) (g.C.Core.seen c.args.core.now) c.flush-before.new.ready)
+    (here c.answer_one.new.outbox (g.W.Wire.told c.flush-before.new.wire) (g.C.Core.seen c.answer_one.new.core) c.answer_one.new.ready)
+    (here c.flush-behind.new.outbox (g.W.Wire.told c.flush-behind.new.wire) (g.C.Core.seen c.answer_one.new.core) c.flush-behind.new.ready)
+    (flushed _ _ _ _ c.args.outbox.now c.flush-before.new.outbox (g.W.Wire.told c.args.wire.now) (g.W.Wire.told c.flush-before.new.wire) c.args.ready.now c.flush-before.new.ready (g.C.Core.seen c.args.core.now) c.flush-before.ensures.flushes)
+    (c.answer_one.ensures.turned (g.W.Wire.told c.flush-before.new.wire))
+    (flushed _ _ _ _ c.answer_one.new.outbox c.flush-behind.new.outbox (g.W.Wire.told c.flush-before.new.wire) (g.W.Wire.told c.flush-behind.new.wire) c.answer_one.new.ready c.flush-behind.new.ready (g.C.Core.seen c.answer_one.new.core) c.flush-behind.ensures.flushes)
 
 pub returns-clause-moved : goal.returns-clause-moved
 returns-clause-moved g c =

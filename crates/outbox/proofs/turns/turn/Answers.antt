@@ -6,15 +6,15 @@ use Rattle.outbox.proofs.turns.turn.Goals as goal
 
 pub returns-clause-turned : goal.returns-clause-turned
 returns-clause-turned g c =
-    four _ _ _ _ (here c.args.outbox.now (g.W.Wire.told c.args.wire.now) c.args.core.now c.args.ready.now)
-    (here c.flush-before.new.outbox (g.W.Wire.told c.flush-before.new.wire) c.args.core.now c.flush-before.new.ready)
-    (here c.feed-read.new.outbox (g.W.Wire.told c.feed-read.new.wire) c.feed-read.new.core c.feed-read.new.ready)
-    (here c.answer.new.outbox (g.W.Wire.told c.feed-read.new.wire) c.answer.new.core c.answer.new.ready)
-    (here c.flush-behind.new.outbox (g.W.Wire.told c.flush-behind.new.wire) c.answer.new.core c.flush-behind.new.ready)
-    (flushed _ _ _ _ c.args.outbox.now c.flush-before.new.outbox (g.W.Wire.told c.args.wire.now) (g.W.Wire.told c.flush-before.new.wire) c.args.ready.now c.flush-before.new.ready c.args.core.now c.flush-before.ensures.flushes)
+    four _ _ _ _ (here c.args.outbox.now (g.W.Wire.told c.args.wire.now) (g.C.Core.seen c.args.core.now) c.args.ready.now)
+    (here c.flush-before.new.outbox (g.W.Wire.told c.flush-before.new.wire) (g.C.Core.seen c.args.core.now) c.flush-before.new.ready)
+    (here c.feed-read.new.outbox (g.W.Wire.told c.feed-read.new.wire) (g.C.Core.seen c.feed-read.new.core) c.feed-read.new.ready)
+    (here c.answer.new.outbox (g.W.Wire.told c.feed-read.new.wire) (g.C.Core.seen c.answer.new.core) c.answer.new.ready)
+    (here c.flush-behind.new.outbox (g.W.Wire.told c.flush-behind.new.wire) (g.C.Core.seen c.answer.new.core) c.flush-behind.new.ready)
+    (flushed _ _ _ _ c.args.outbox.now c.flush-before.new.outbox (g.W.Wire.told c.args.wire.now) (g.W.Wire.told c.flush-before.new.wire) c.args.ready.now c.flush-before.new.ready (g.C.Core.seen c.args.core.now) c.flush-before.ensures.flushes)
     c.feed-read.ensures.turned
-    (c.answer.ensures (g.W.Wire.told c.feed-read.new.wire))
-    (flushed _ _ _ _ c.answer.new.outbox c.flush-behind.new.outbox (g.W.Wire.told c.feed-read.new.wire) (g.W.Wire.told c.flush-behind.new.wire) c.answer.new.ready c.flush-behind.new.ready c.answer.new.core c.flush-behind.ensures.flushes)
+    (c.answer.ensures.turned (g.W.Wire.told c.feed-read.new.wire))
+    (flushed _ _ _ _ c.answer.new.outbox c.flush-behind.new.outbox (g.W.Wire.told c.feed-read.new.wire) (g.W.Wire.told c.flush-behind.new.wire) c.answer.new.ready c.flush-behind.new.ready (g.C.Core.seen c.answer.new.core) c.flush-behind.ensures.flushes)
 
 pub returns-clause-moved : goal.returns-clause-moved
 returns-clause-moved g c =

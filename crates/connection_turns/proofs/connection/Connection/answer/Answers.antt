@@ -8,4 +8,4 @@ returns-clause-turn g c = answered _ _ _ _ (progressed _ _ _ _ _ _ _ _ _ c.reply
 pub returns-clause-owed : goal.returns-clause-owed
 returns-clause-owed g c =
     let t = c.reply.ensures.turned in
-    rw t.line_is (one_added (g.C.LoopCore.steps.takes c.args.conn) (g.C.LoopCore.steps.answers c.args.conn) c.args.self.now.outbox t.events c.args.core.now c.reply.new.core t.core_is t.few_pieces t.few_answers)
+    rw t.line_is (one_added (g.C.LoopCore.steps.takes c.args.conn) (g.C.LoopCore.steps.answers c.args.conn) c.args.self.now.outbox t.events (g.C.LoopCore.steps.seen c.args.core.now) (g.C.LoopCore.steps.seen c.reply.new.core) t.core_is t.few_pieces t.few_answers)
