@@ -10,7 +10,7 @@ use Rattle.connection_turns.specs.declared.ending.End.TheVariants as end
 use Rattle.due_list.specs.declared.due.Due.{Due}
 use Rattle.open_connections.specs.declared.open.Open.{Open}
 use Rattle.connection_turns.specs.Cores.{CoreSteps}
-use Rattle.open_connections.specs.Looping.{Does, DoesSome, LetGo, Stays}
+use Rattle.open_connections.specs.Looping.{Does, DoesSome, LetGo, PassedBy, Stays}
 use Rattle.open_connections.specs.Opened.{IsPutOff, has_time, is_there, lanes_of, lost_at}
 use Rattle.due_list.specs.Rounds.{IsFresh}
 use Rattle.open_connections.specs.Turns.{GetsTurn, OthersStand, StatesStay}
@@ -19,49 +19,49 @@ use Rattle.event_loop.specs.Seats.{turns_of}
 
 -- What follows from a turn. One that is over is let go. One that is open stays as the turn left it, or is let go if memory is refused.
 abbrev pub Follows : {S C T : Type 0} → CoreSteps C → (S → Option Traffic) → (key : ℕ) → Outcome → Open S C T → Open S C T → Type 0
-Follows s told key outcome.Open old new = Does s (LetGo key) (lanes_of told old) (lanes_of told new) ⊎ (Stays (lanes_of told old) (lanes_of told new) × StatesStay old new)
-Follows s told key (outcome.Over how) old new = Does s (LetGo key) (lanes_of told old) (lanes_of told new)
-Follows s told key outcome.Closed old new = Does s (LetGo key) (lanes_of told old) (lanes_of told new)
+Follows s told key outcome.Open old new = Does s (LetGo key) (lanes_of s told old) (lanes_of s told new) ⊎ (Stays (lanes_of s told old) (lanes_of s told new) × StatesStay old new)
+Follows s told key (outcome.Over how) old new = Does s (LetGo key) (lanes_of s told old) (lanes_of s told new)
+Follows s told key outcome.Closed old new = Does s (LetGo key) (lanes_of s told old) (lanes_of s told new)
 
 -- The connection with this key has its turn. If its peer is gone, nothing is done.
-pub record GetsTurnAt {S C T : Type 0} (s : CoreSteps C) (told : S → Option Traffic) (may_wait : ℕ → C → Bool) (key : ℕ) (result : Outcome) (old new : Open S C T) : Type 0 where
-  pub gets : IfSome (get old.connections key) (λ c. IsFalse (is_lost c) → GetsTurn s told may_wait key c result old new)
-  pub lost : IsTrue (lost_at key old) → (result ≡ outcome.Over end.ReadFault) × Stays (lanes_of told old) (lanes_of told new)
+pub record GetsTurnAt {S C T : Type 0} (s : CoreSteps C) (told : S → Option Traffic) (waits : ℕ → C → Bool) (key : ℕ) (result : Outcome) (old new : Open S C T) : Type 0 where
+  pub gets : IfSome (get old.connections key) (λ c. IsFalse (is_lost c) → GetsTurn s told waits key c result old new)
+  pub lost : IsTrue (lost_at key old) → (result ≡ outcome.Over end.ReadFault) × PassedBy key (lanes_of s told old) (lanes_of s told new)
 
 -- It has its turn, and then what follows from that. All others stay what they are.
-pub record TakesTurnAt {S C T : Type 0} (s : CoreSteps C) (told : S → Option Traffic) (may_wait : ℕ → C → Bool) (key : ℕ) (old new : Open S C T) : Type 0 where
+pub record TakesTurnAt {S C T : Type 0} (s : CoreSteps C) (told : S → Option Traffic) (waits : ℕ → C → Bool) (key : ℕ) (old new : Open S C T) : Type 0 where
   pub turned : Open S C T
   pub result : Outcome
-  pub turn : GetsTurnAt s told may_wait key result old turned
+  pub turn : GetsTurnAt s told waits key result old turned
   pub follows : Follows s told key result turned new
   pub others : OthersStand key old new
 
 -- one is put off
-pub record PutsOff {S C T : Type 0} (told : S → Option Traffic) (due : Due) (old new : Open S C T) : Type 0 where
-  pub lanes : Stays (lanes_of told old) (lanes_of told new)
+pub record PutsOff {S C T : Type 0} (s : CoreSteps C) (told : S → Option Traffic) (due : Due) (old new : Open S C T) : Type 0 where
+  pub lanes : Stays (lanes_of s told old) (lanes_of s told new)
   pub ready : StatesStay old new
   pub first : IsPutOff due old new
 
 -- One for whose tenant no time is left is put off. Any other has its turn, if it is open still.
-abbrev pub ServesOne : {S C T : Type 0} → CoreSteps C → (S → Option Traffic) → (may_wait longs : ℕ → C → Bool) → Due → Open S C T → Open S C T → Type 0
-ServesOne s told may_wait longs due old new = MatchBool (has_time longs due old) (MatchBool (is_there due old) (TakesTurnAt s told may_wait due.key old new) (new ≡ old)) (PutsOff told due old new)
+abbrev pub ServesOne : {S C T : Type 0} → CoreSteps C → (S → Option Traffic) → (waits longs : ℕ → C → Bool) → Due → Open S C T → Open S C T → Type 0
+ServesOne s told waits longs due old new = MatchBool (has_time longs due old) (MatchBool (is_there due old) (TakesTurnAt s told waits due.key old new) (new ≡ old)) (PutsOff s told due old new)
 
 -- each of a list, one after the other, and nothing more
-abbrev pub ServesEach : {S C T : Type 0} → CoreSteps C → (S → Option Traffic) → (may_wait longs : ℕ → C → Bool) → List Due → Open S C T → Open S C T → Type 0
-ServesEach s told may_wait longs [] old new = Stays (lanes_of told old) (lanes_of told new) × StatesStay old new × TurnsStay old new × (new.due.first.items ≡ old.due.first.items)
-ServesEach {S} {C} {T} s told may_wait longs (due ∷ dues) old new = (mid : Open S C T) × ServesOne s told may_wait longs due old mid × TurnsStay old mid × ServesEach s told may_wait longs dues mid new
+abbrev pub ServesEach : {S C T : Type 0} → CoreSteps C → (S → Option Traffic) → (waits longs : ℕ → C → Bool) → List Due → Open S C T → Open S C T → Type 0
+ServesEach s told waits longs [] old new = Stays (lanes_of s told old) (lanes_of s told new) × StatesStay old new × TurnsStay old new × (new.due.first.items ≡ old.due.first.items)
+ServesEach {S} {C} {T} s told waits longs (due ∷ dues) old new = (mid : Open S C T) × ServesOne s told waits longs due old mid × TurnsStay old mid × ServesEach s told waits longs dues mid new
 
 -- All that were to have a turn are served, in order: those in front first. None is listed for the next round yet when that begins, and no time was taken.
-pub record TakesTurns {S C T : Type 0} (s : CoreSteps C) (told : S → Option Traffic) (may_wait longs : ℕ → C → Bool) (old new : Open S C T) : Type 0 where
+pub record TakesTurns {S C T : Type 0} (s : CoreSteps C) (told : S → Option Traffic) (waits longs : ℕ → C → Bool) (old new : Open S C T) : Type 0 where
   pub start : Open S C T
-  pub begins : Stays (lanes_of told old) (lanes_of told start)
+  pub begins : Stays (lanes_of s told old) (lanes_of s told start)
   pub same : start.connections ≡ old.connections
   pub fresh : IsFresh start.due
-  pub serves : ServesEach s told may_wait longs (turns_of old) start new
+  pub serves : ServesEach s told waits longs (turns_of old) start new
 
 -- A round: what was to have a turn is to have it still when the turns begin, and then they are given.
-pub record GoesRound {S C T : Type 0} (s : CoreSteps C) (told : S → Option Traffic) (may_wait longs : ℕ → C → Bool) (old new : Open S C T) : Type 0 where
+pub record GoesRound {S C T : Type 0} (s : CoreSteps C) (told : S → Option Traffic) (waits longs : ℕ → C → Bool) (old new : Open S C T) : Type 0 where
   pub begun : Open S C T
-  pub comes : DoesSome s (lanes_of told old) (lanes_of told begun)
+  pub comes : DoesSome s (lanes_of s told old) (lanes_of s told begun)
   pub stand : TurnsStay old begun
-  pub turns : TakesTurns s told may_wait longs begun new
+  pub turns : TakesTurns s told waits longs begun new

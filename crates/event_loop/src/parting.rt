@@ -44,7 +44,7 @@ impl<S: System + Drop, C: LoopCore, T: Time + Drop> Rounds<S, C, T> {
 
     /// Closes the connections that wait, without a byte.
     pub fn turn_away(&mut self)
-        ensures lanes { Stays (lanes_of S.Stream.told self.old.opened) (lanes_of S.Stream.told self.new.opened) }
+        ensures lanes { Stays (lanes_of C.steps S.Stream.told self.old.opened) (lanes_of C.steps S.Stream.told self.new.opened) }
         ensures woken { StaysWoken self.old.opened self.new.opened }
     {
         'asking: for _ in 0..ACCEPTS {
@@ -57,7 +57,7 @@ impl<S: System + Drop, C: LoopCore, T: Time + Drop> Rounds<S, C, T> {
 
     // Accepts one that waits, and hands it out to be closed as it came: nothing was read of it or written to it.
     fn late(&mut self) -> Option<S::Stream>
-        ensures lanes { Stays (lanes_of S.Stream.told self.old.opened) (lanes_of S.Stream.told self.new.opened) }
+        ensures lanes { Stays (lanes_of C.steps S.Stream.told self.old.opened) (lanes_of C.steps S.Stream.told self.new.opened) }
         ensures unused { IfSome result (λ stream. IsUnused (S.Stream.told stream)) }
         ensures woken { StaysWoken self.old.opened self.new.opened }
     {
@@ -77,8 +77,8 @@ impl<S: System + Drop, C: LoopCore, T: Time + Drop> Rounds<S, C, T> {
 
     /// What a drain does to a connection that is open. Behind the grace it is closed if it rests, and else leaves; some seconds later it is closed.
     pub fn drain<J: Journal>(&mut self, key: usize, journal: &mut J)
-        ensures lanes { DoesAtMost C.steps (LetGo key) (lanes_of S.Stream.told self.old.opened) (lanes_of S.Stream.told self.new.opened) }
-        ensures parts { Parts S.Stream.told (parting_of self.old.drained self.old.desk.standing.grace self.old.seconds.last) key self.old.opened self.new.opened }
+        ensures lanes { DoesAtMost C.steps (LetGo key) (lanes_of C.steps S.Stream.told self.old.opened) (lanes_of C.steps S.Stream.told self.new.opened) }
+        ensures parts { Parts C.steps S.Stream.told (parting_of self.old.drained self.old.desk.standing.grace self.old.seconds.last) key self.old.opened self.new.opened }
         ensures woken { StaysWoken self.old.opened self.new.opened }
     {
         match self.parting() {
@@ -100,8 +100,8 @@ impl<S: System + Drop, C: LoopCore, T: Time + Drop> Rounds<S, C, T> {
 
     // One at rest is closed at once, and any other leaves.
     fn part_with<J: Journal>(&mut self, key: usize, journal: &mut J)
-        ensures lanes { DoesAtMost C.steps (LetGo key) (lanes_of S.Stream.told self.old.opened) (lanes_of S.Stream.told self.new.opened) }
-        ensures busy { IsFalse (rests_at key self.old.opened) → LeavesAt S.Stream.told key self.old.opened self.new.opened }
+        ensures lanes { DoesAtMost C.steps (LetGo key) (lanes_of C.steps S.Stream.told self.old.opened) (lanes_of C.steps S.Stream.told self.new.opened) }
+        ensures busy { IsFalse (rests_at key self.old.opened) → LeavesAt C.steps S.Stream.told key self.old.opened self.new.opened }
         ensures woken { StaysWoken self.old.opened self.new.opened }
     {
         if self.opened.rests(key) {
@@ -113,7 +113,7 @@ impl<S: System + Drop, C: LoopCore, T: Time + Drop> Rounds<S, C, T> {
 
     // A connection leaves.
     fn leave(&mut self, key: usize)
-        ensures lanes { LeavesAt S.Stream.told key self.old.opened self.new.opened }
+        ensures lanes { LeavesAt C.steps S.Stream.told key self.old.opened self.new.opened }
         ensures woken { StaysWoken self.old.opened self.new.opened }
     {
         self.opened.leave(key);
@@ -121,7 +121,7 @@ impl<S: System + Drop, C: LoopCore, T: Time + Drop> Rounds<S, C, T> {
 
     // Closes one that is served.
     fn cut<J: Journal>(&mut self, key: usize, journal: &mut J)
-        ensures lanes { DoesAtMost C.steps (LetGo key) (lanes_of S.Stream.told self.old.opened) (lanes_of S.Stream.told self.new.opened) }
+        ensures lanes { DoesAtMost C.steps (LetGo key) (lanes_of C.steps S.Stream.told self.old.opened) (lanes_of C.steps S.Stream.told self.new.opened) }
         ensures woken { StaysWoken self.old.opened self.new.opened }
     {
         if !self.opened.is_served(key) {

@@ -96,8 +96,8 @@ impl<S: System + Drop, C: LoopCore, T: Time + Drop> Rounds<S, C, T> {
         ensures unconnected { IfOk result (λ rounds. connected_in rounds.opened ≡ 0) }
         ensures none_taken { IfOk result (λ rounds. rounds.acceptor.taken ≡ 0) }
         ensures limits { IfOk result (λ rounds. rounds.limits ≡ limits) }
-        ensures core { IfOk result (λ rounds. (lanes_of S.Stream.told rounds.opened).core ≡ core) }
-        ensures none { IfOk result (λ rounds. (q : ℕ) → (lanes_of S.Stream.told rounds.opened).lines q ≡ None) }
+        ensures core { IfOk result (λ rounds. rounds.opened.core ≡ core) }
+        ensures none { IfOk result (λ rounds. (q : ℕ) → (lanes_of C.steps S.Stream.told rounds.opened).lines q ≡ None) }
         ensures budgets { IfOk result (λ rounds. rounds.opened.budgets ≡ fresh_budgets limits.memory) }
         ensures woken { IfOk result (λ rounds. IsWoken [] rounds.opened) }
         ensures joined { IfOk result (λ rounds. Joined (claim_at rounds.opened.connections) rounds.opened.budgets) }
@@ -144,11 +144,11 @@ impl<S: System + Drop, C: LoopCore, T: Time + Drop> Rounds<S, C, T> {
     ///
     /// `Net` where the system does not say what is ready, `Memory` where a growth was refused that no connection asked for.
     pub fn step<J: Journal>(&mut self, journal: &mut J) -> Result<(), LoopFault>
-        ensures lanes { DoesSome C.steps (lanes_of S.Stream.told self.old.opened) (lanes_of S.Stream.told self.new.opened) }
+        ensures lanes { DoesSome C.steps (lanes_of C.steps S.Stream.told self.old.opened) (lanes_of C.steps S.Stream.told self.new.opened) }
         ensures deaf { IsFalse self.old.acceptor.listens → IsFalse self.new.acceptor.listens }
-        ensures on { IsFalse self.old.acceptor.listens → DoesOn C.steps (lanes_of S.Stream.told self.old.opened) (lanes_of S.Stream.told self.new.opened) }
+        ensures on { IsFalse self.old.acceptor.listens → DoesOn C.steps (lanes_of C.steps S.Stream.told self.old.opened) (lanes_of C.steps S.Stream.told self.new.opened) }
         ensures drains { OnOk result (IsTrue (is_some self.new.desk.standing.grace) → IsFalse self.new.acceptor.listens) }
-        ensures turns { OnOk result (GoesRound C.steps S.Stream.told C.may_wait C.longs self.old.opened self.new.opened) }
+        ensures turns { OnOk result (GoesRound C.steps S.Stream.told C.waits C.longs self.old.opened self.new.opened) }
         ensures woken { IsWoken [] self.old.opened → OnOk result (IsWoken [] self.new.opened) }
         ensures fault { IfErr result (λ e. ComesOfWaiting e (S.failed self.new.system)) }
     {
@@ -171,10 +171,10 @@ impl<S: System + Drop, C: LoopCore, T: Time + Drop> Rounds<S, C, T> {
 
     // One round of a server that listens, or does not.
     fn go_round<J: Journal>(&mut self, listens: bool, journal: &mut J) -> Result<(), LoopFault>
-        ensures lanes { DoesSome C.steps (lanes_of S.Stream.told self.old.opened) (lanes_of S.Stream.told self.new.opened) }
-        ensures on { IsFalse listens → DoesOn C.steps (lanes_of S.Stream.told self.old.opened) (lanes_of S.Stream.told self.new.opened) }
+        ensures lanes { DoesSome C.steps (lanes_of C.steps S.Stream.told self.old.opened) (lanes_of C.steps S.Stream.told self.new.opened) }
+        ensures on { IsFalse listens → DoesOn C.steps (lanes_of C.steps S.Stream.told self.old.opened) (lanes_of C.steps S.Stream.told self.new.opened) }
         ensures drains { OnOk result (IsTrue (is_some self.new.desk.standing.grace) → IsFalse self.new.acceptor.listens) }
-        ensures turns { OnOk result (GoesRound C.steps S.Stream.told C.may_wait C.longs self.old.opened self.new.opened) }
+        ensures turns { OnOk result (GoesRound C.steps S.Stream.told C.waits C.longs self.old.opened self.new.opened) }
         ensures woken { IsWoken [] self.old.opened → OnOk result (IsWoken [] self.new.opened) }
         ensures fault { IfErr result (λ e. ComesOfWaiting e (S.failed self.new.system)) }
     {
@@ -193,7 +193,7 @@ impl<S: System + Drop, C: LoopCore, T: Time + Drop> Rounds<S, C, T> {
 
     // Reads the clock, and tells whether a second passed since that was last told.
     fn is_later(&mut self) -> bool
-        ensures lanes { Stays (lanes_of S.Stream.told self.old.opened) (lanes_of S.Stream.told self.new.opened) }
+        ensures lanes { Stays (lanes_of C.steps S.Stream.told self.old.opened) (lanes_of C.steps S.Stream.told self.new.opened) }
         ensures woken { StaysWoken self.old.opened self.new.opened }
     {
         self.seconds.is_later()
@@ -201,7 +201,7 @@ impl<S: System + Drop, C: LoopCore, T: Time + Drop> Rounds<S, C, T> {
 
     // Notes what is ready. Where a second passed, that is all that is ready by now; else it is waited for.
     fn wait(&mut self, is_later: bool) -> Result<(), LoopFault>
-        ensures lanes { Stays (lanes_of S.Stream.told self.old.opened) (lanes_of S.Stream.told self.new.opened) }
+        ensures lanes { Stays (lanes_of C.steps S.Stream.told self.old.opened) (lanes_of C.steps S.Stream.told self.new.opened) }
         ensures woken { StaysWoken self.old.opened self.new.opened }
         ensures fault { IfErr result (λ e. ComesOfWaiting e (S.failed self.new.system)) }
     {
@@ -213,7 +213,7 @@ impl<S: System + Drop, C: LoopCore, T: Time + Drop> Rounds<S, C, T> {
 
     // Notes what is ready by now, a wait's reports at a time.
     fn catch_up(&mut self) -> Result<(), LoopFault>
-        ensures lanes { Stays (lanes_of S.Stream.told self.old.opened) (lanes_of S.Stream.told self.new.opened) }
+        ensures lanes { Stays (lanes_of C.steps S.Stream.told self.old.opened) (lanes_of C.steps S.Stream.told self.new.opened) }
         ensures woken { StaysWoken self.old.opened self.new.opened }
         ensures fault { IfErr result (λ e. ComesOfWaiting e (S.failed self.new.system)) }
     {
@@ -225,7 +225,7 @@ impl<S: System + Drop, C: LoopCore, T: Time + Drop> Rounds<S, C, T> {
 
     // Waits for what is ready, so long at most, and notes it.
     fn wait_once(&mut self, most: Duration) -> Result<(), LoopFault>
-        ensures lanes { Stays (lanes_of S.Stream.told self.old.opened) (lanes_of S.Stream.told self.new.opened) }
+        ensures lanes { Stays (lanes_of C.steps S.Stream.told self.old.opened) (lanes_of C.steps S.Stream.told self.new.opened) }
         ensures woken { StaysWoken self.old.opened self.new.opened }
         ensures fault { IfErr result (λ e. ComesOfWaiting e (S.failed self.new.system)) }
     {
@@ -255,7 +255,7 @@ impl<S: System + Drop, C: LoopCore, T: Time + Drop> Rounds<S, C, T> {
 
     // Notes what came of a wait beside the reports.
     fn heed(&mut self, woken: Woken)
-        ensures lanes { Stays (lanes_of S.Stream.told self.old.opened) (lanes_of S.Stream.told self.new.opened) }
+        ensures lanes { Stays (lanes_of C.steps S.Stream.told self.old.opened) (lanes_of C.steps S.Stream.told self.new.opened) }
         ensures woken { StaysWoken self.old.opened self.new.opened }
     {
         self.acceptor.is_asked = self.acceptor.is_asked || woken.is_asked;
@@ -267,7 +267,7 @@ impl<S: System + Drop, C: LoopCore, T: Time + Drop> Rounds<S, C, T> {
 
     // Notes what was reported.
     fn note_reports(&mut self)
-        ensures lanes { Stays (lanes_of S.Stream.told self.old.opened) (lanes_of S.Stream.told self.new.opened) }
+        ensures lanes { Stays (lanes_of C.steps S.Stream.told self.old.opened) (lanes_of C.steps S.Stream.told self.new.opened) }
         ensures woken { StaysWoken self.old.opened self.new.opened }
     {
         'reports: for number in 0..usize::MAX {
@@ -282,8 +282,8 @@ impl<S: System + Drop, C: LoopCore, T: Time + Drop> Rounds<S, C, T> {
 
     // Takes in connections that wait, as long as the limits allow. A server that does not listen closes them.
     fn accept<J: Journal>(&mut self, journal: &mut J)
-        ensures lanes { DoesSome C.steps (lanes_of S.Stream.told self.old.opened) (lanes_of S.Stream.told self.new.opened) }
-        ensures deaf { IsFalse self.old.acceptor.listens → Stays (lanes_of S.Stream.told self.old.opened) (lanes_of S.Stream.told self.new.opened) }
+        ensures lanes { DoesSome C.steps (lanes_of C.steps S.Stream.told self.old.opened) (lanes_of C.steps S.Stream.told self.new.opened) }
+        ensures deaf { IsFalse self.old.acceptor.listens → Stays (lanes_of C.steps S.Stream.told self.old.opened) (lanes_of C.steps S.Stream.told self.new.opened) }
         ensures woken { StaysWoken self.old.opened self.new.opened }
         ensures tried { IsTrue self.old.acceptor.listens → IsTrue self.old.acceptor.is_asked → connected_in self.old.opened < self.old.limits.connections → IfSome (S.tried self.new.system) IsTrue }
     {
@@ -296,7 +296,7 @@ impl<S: System + Drop, C: LoopCore, T: Time + Drop> Rounds<S, C, T> {
     }
 
     fn accept_some<J: Journal>(&mut self, journal: &mut J)
-        ensures lanes { DoesSome C.steps (lanes_of S.Stream.told self.old.opened) (lanes_of S.Stream.told self.new.opened) }
+        ensures lanes { DoesSome C.steps (lanes_of C.steps S.Stream.told self.old.opened) (lanes_of C.steps S.Stream.told self.new.opened) }
         ensures woken { StaysWoken self.old.opened self.new.opened }
         ensures tried { IsTrue (self.old.acceptor.is_asked && not self.old.acceptor.is_refused) → connected_in self.old.opened < self.old.limits.connections → IfSome (S.tried self.new.system) IsTrue }
     {
@@ -310,7 +310,7 @@ impl<S: System + Drop, C: LoopCore, T: Time + Drop> Rounds<S, C, T> {
 
     // Accepts one, if one may wait and there is room for it, and tells whether that was so.
     fn accept_next<J: Journal>(&mut self, journal: &mut J) -> bool
-        ensures lanes { DoesSome C.steps (lanes_of S.Stream.told self.old.opened) (lanes_of S.Stream.told self.new.opened) }
+        ensures lanes { DoesSome C.steps (lanes_of C.steps S.Stream.told self.old.opened) (lanes_of C.steps S.Stream.told self.new.opened) }
         ensures woken { StaysWoken self.old.opened self.new.opened }
         ensures tried { IsTrue (self.old.acceptor.is_asked && not self.old.acceptor.is_refused) → connected_in self.old.opened < self.old.limits.connections → IsTrue result }
         ensures asked { MatchBool result (IfSome (S.tried self.new.system) IsTrue) (S.tried self.new.system ≡ S.tried self.old.system) }
@@ -336,7 +336,7 @@ impl<S: System + Drop, C: LoopCore, T: Time + Drop> Rounds<S, C, T> {
 
     // Where there is room for one more.
     fn place(&mut self) -> Room
-        ensures lanes { Stays (lanes_of S.Stream.told self.old.opened) (lanes_of S.Stream.told self.new.opened) }
+        ensures lanes { Stays (lanes_of C.steps S.Stream.told self.old.opened) (lanes_of C.steps S.Stream.told self.new.opened) }
         ensures woken { StaysWoken self.old.opened self.new.opened }
         ensures room { connected_in self.old.opened < self.old.limits.connections → result ≡ Room.Free }
         ensures tried { S.tried self.new.system ≡ S.tried self.old.system }
@@ -350,7 +350,7 @@ impl<S: System + Drop, C: LoopCore, T: Time + Drop> Rounds<S, C, T> {
 
     // That of the one that has been idle longest.
     fn spare(&mut self) -> Room
-        ensures lanes { Stays (lanes_of S.Stream.told self.old.opened) (lanes_of S.Stream.told self.new.opened) }
+        ensures lanes { Stays (lanes_of C.steps S.Stream.told self.old.opened) (lanes_of C.steps S.Stream.told self.new.opened) }
         ensures woken { StaysWoken self.old.opened self.new.opened }
         ensures tried { S.tried self.new.system ≡ S.tried self.old.system }
     {
@@ -362,7 +362,7 @@ impl<S: System + Drop, C: LoopCore, T: Time + Drop> Rounds<S, C, T> {
 
     // Accepts one, in this place.
     fn accept_one<J: Journal>(&mut self, place: Room, journal: &mut J)
-        ensures lanes { DoesSome C.steps (lanes_of S.Stream.told self.old.opened) (lanes_of S.Stream.told self.new.opened) }
+        ensures lanes { DoesSome C.steps (lanes_of C.steps S.Stream.told self.old.opened) (lanes_of C.steps S.Stream.told self.new.opened) }
         ensures woken { StaysWoken self.old.opened self.new.opened }
         ensures tried { IfSome (S.tried self.new.system) IsTrue }
     {
@@ -376,7 +376,7 @@ impl<S: System + Drop, C: LoopCore, T: Time + Drop> Rounds<S, C, T> {
 
     // No descriptor or no memory is left: one that is idle makes room, and where none is, it is tried again after a wait.
     fn make_room<J: Journal>(&mut self, place: Room, journal: &mut J)
-        ensures lanes { DoesSome C.steps (lanes_of S.Stream.told self.old.opened) (lanes_of S.Stream.told self.new.opened) }
+        ensures lanes { DoesSome C.steps (lanes_of C.steps S.Stream.told self.old.opened) (lanes_of C.steps S.Stream.told self.new.opened) }
         ensures woken { StaysWoken self.old.opened self.new.opened }
         ensures tried { S.tried self.new.system ≡ S.tried self.old.system }
     {
@@ -388,7 +388,7 @@ impl<S: System + Drop, C: LoopCore, T: Time + Drop> Rounds<S, C, T> {
 
     // A place that is not beside those that are open.
     fn instead_of(&mut self, place: Room) -> Room
-        ensures lanes { Stays (lanes_of S.Stream.told self.old.opened) (lanes_of S.Stream.told self.new.opened) }
+        ensures lanes { Stays (lanes_of C.steps S.Stream.told self.old.opened) (lanes_of C.steps S.Stream.told self.new.opened) }
         ensures woken { StaysWoken self.old.opened self.new.opened }
         ensures tried { S.tried self.new.system ≡ S.tried self.old.system }
     {
@@ -407,7 +407,7 @@ impl<S: System + Drop, C: LoopCore, T: Time + Drop> Rounds<S, C, T> {
         journal: &mut J,
     )
         requires { IsUnused (S.Stream.told stream) }
-        ensures lanes { DoesSome C.steps (lanes_of S.Stream.told self.old.opened) (lanes_of S.Stream.told self.new.opened) }
+        ensures lanes { DoesSome C.steps (lanes_of C.steps S.Stream.told self.old.opened) (lanes_of C.steps S.Stream.told self.new.opened) }
         ensures woken { StaysWoken self.old.opened self.new.opened }
         ensures tried { S.tried self.new.system ≡ S.tried self.old.system }
     {
@@ -418,7 +418,7 @@ impl<S: System + Drop, C: LoopCore, T: Time + Drop> Rounds<S, C, T> {
 
     // Closes one that makes room.
     fn displace<J: Journal>(&mut self, place: Room, journal: &mut J)
-        ensures lanes { DoesSome C.steps (lanes_of S.Stream.told self.old.opened) (lanes_of S.Stream.told self.new.opened) }
+        ensures lanes { DoesSome C.steps (lanes_of C.steps S.Stream.told self.old.opened) (lanes_of C.steps S.Stream.told self.new.opened) }
         ensures woken { StaysWoken self.old.opened self.new.opened }
         ensures tried { S.tried self.new.system ≡ S.tried self.old.system }
     {
@@ -432,7 +432,7 @@ impl<S: System + Drop, C: LoopCore, T: Time + Drop> Rounds<S, C, T> {
     // Takes a connection in. Where memory is refused, or it can't be waited for, it is closed.
     fn take_in(&mut self, mut stream: S::Stream, peer: SocketAddr)
         requires { IsUnused (S.Stream.told stream) }
-        ensures lanes { DoesSome C.steps (lanes_of S.Stream.told self.old.opened) (lanes_of S.Stream.told self.new.opened) }
+        ensures lanes { DoesSome C.steps (lanes_of C.steps S.Stream.told self.old.opened) (lanes_of C.steps S.Stream.told self.new.opened) }
         ensures woken { StaysWoken self.old.opened self.new.opened }
         ensures tried { S.tried self.new.system ≡ S.tried self.old.system }
     {
@@ -449,7 +449,7 @@ impl<S: System + Drop, C: LoopCore, T: Time + Drop> Rounds<S, C, T> {
     // Opens a connection under a key, and counts it.
     fn open(&mut self, key: usize, stream: S::Stream, peer: SocketAddr)
         requires { IsUnused (S.Stream.told stream) }
-        ensures lanes { DoesSome C.steps (lanes_of S.Stream.told self.old.opened) (lanes_of S.Stream.told self.new.opened) }
+        ensures lanes { DoesSome C.steps (lanes_of C.steps S.Stream.told self.old.opened) (lanes_of C.steps S.Stream.told self.new.opened) }
         ensures woken { StaysWoken self.old.opened self.new.opened }
         ensures tried { S.tried self.new.system ≡ S.tried self.old.system }
     {
@@ -462,8 +462,8 @@ impl<S: System + Drop, C: LoopCore, T: Time + Drop> Rounds<S, C, T> {
 
     // One turn for each connection that is due.
     fn take_turns<J: Journal>(&mut self, journal: &mut J) -> Result<(), LoopFault>
-        ensures lanes { DoesOn C.steps (lanes_of S.Stream.told self.old.opened) (lanes_of S.Stream.told self.new.opened) }
-        ensures each { OnOk result (TakesTurns C.steps S.Stream.told C.may_wait C.longs self.old.opened self.new.opened) }
+        ensures lanes { DoesOn C.steps (lanes_of C.steps S.Stream.told self.old.opened) (lanes_of C.steps S.Stream.told self.new.opened) }
+        ensures each { OnOk result (TakesTurns C.steps S.Stream.told C.waits C.longs self.old.opened self.new.opened) }
         ensures woken { IsWoken [] self.old.opened → OnOk result (IsWoken [] self.new.opened) }
         ensures refused { IfErr result (λ e. e ≡ LoopFault.Memory) }
     {
@@ -478,10 +478,10 @@ impl<S: System + Drop, C: LoopCore, T: Time + Drop> Rounds<S, C, T> {
 
     // One turn for a connection that is due, where there is time for it in this round, and it was not closed since.
     fn serve<J: Journal>(&mut self, due: Due, journal: &mut J) -> Result<(), LoopFault>
-        ensures lanes { DoesOn C.steps (lanes_of S.Stream.told self.old.opened) (lanes_of S.Stream.told self.new.opened) }
+        ensures lanes { DoesOn C.steps (lanes_of C.steps S.Stream.told self.old.opened) (lanes_of C.steps S.Stream.told self.new.opened) }
         ensures kept { IsFalse (has_time C.longs due self.old.opened) → OnOk result (IsPutOff due self.old.opened self.new.opened) }
-        ensures gone { IsFalse (is_there due self.old.opened) → Stays (lanes_of S.Stream.told self.old.opened) (lanes_of S.Stream.told self.new.opened) }
-        ensures serves { OnOk result (ServesOne C.steps S.Stream.told C.may_wait C.longs due self.old.opened self.new.opened) }
+        ensures gone { IsFalse (is_there due self.old.opened) → Stays (lanes_of C.steps S.Stream.told self.old.opened) (lanes_of C.steps S.Stream.told self.new.opened) }
+        ensures serves { OnOk result (ServesOne C.steps S.Stream.told C.waits C.longs due self.old.opened self.new.opened) }
         ensures woken { OnOk result (Passes due self.old.opened self.new.opened) }
         ensures refused { IfErr result (λ e. e ≡ LoopFault.Memory) }
     {
@@ -498,7 +498,7 @@ impl<S: System + Drop, C: LoopCore, T: Time + Drop> Rounds<S, C, T> {
 
     // Its turn comes in the next round.
     fn put_off(&mut self, due: Due) -> Result<(), LoopFault>
-        ensures lanes { Stays (lanes_of S.Stream.told self.old.opened) (lanes_of S.Stream.told self.new.opened) }
+        ensures lanes { Stays (lanes_of C.steps S.Stream.told self.old.opened) (lanes_of C.steps S.Stream.told self.new.opened) }
         ensures ready { StatesStay self.old.opened self.new.opened }
         ensures kept { OnOk result (IsPutOff due self.old.opened self.new.opened) }
         ensures woken { OnOk result (Passes due self.old.opened self.new.opened) }
@@ -509,8 +509,8 @@ impl<S: System + Drop, C: LoopCore, T: Time + Drop> Rounds<S, C, T> {
 
     // One turn for a connection, and what follows from it.
     fn take_turn<J: Journal>(&mut self, key: usize, journal: &mut J)
-        ensures lanes { DoesOn C.steps (lanes_of S.Stream.told self.old.opened) (lanes_of S.Stream.told self.new.opened) }
-        ensures takes { IsTrue (is_open_at key self.old.opened) → key < 2 ^ 32 → TakesTurnAt C.steps S.Stream.told C.may_wait key self.old.opened self.new.opened }
+        ensures lanes { DoesOn C.steps (lanes_of C.steps S.Stream.told self.old.opened) (lanes_of C.steps S.Stream.told self.new.opened) }
+        ensures takes { IsTrue (is_open_at key self.old.opened) → key < 2 ^ 32 → TakesTurnAt C.steps S.Stream.told C.waits key self.old.opened self.new.opened }
         ensures woken { Serves key self.old.opened self.new.opened }
     {
         steps_join::<C>();
@@ -521,10 +521,10 @@ impl<S: System + Drop, C: LoopCore, T: Time + Drop> Rounds<S, C, T> {
 
     // One turn for a connection. If bytes moved, the second that the clock tells behind it is noted.
     fn turn(&mut self, key: usize) -> Outcome
-        ensures lanes { TurnsAtMost C.steps key (lanes_of S.Stream.told self.old.opened) (lanes_of S.Stream.told self.new.opened) }
+        ensures lanes { TurnsAtMost C.steps key (lanes_of C.steps S.Stream.told self.old.opened) (lanes_of C.steps S.Stream.told self.new.opened) }
         ensures others { OthersStand key self.old.opened self.new.opened }
         ensures clock { NotesMoved key self.old.opened self.new.opened self.new.seconds.counted self.new.seconds.last }
-        ensures gets { key < 2 ^ 32 → (turned : Open S.Stream C T) × GetsTurnAt C.steps S.Stream.told C.may_wait key result self.old.opened turned × Stays (lanes_of S.Stream.told turned) (lanes_of S.Stream.told self.new.opened) × StatesStay turned self.new.opened }
+        ensures gets { key < 2 ^ 32 → (turned : Open S.Stream C T) × GetsTurnAt C.steps S.Stream.told C.waits key result self.old.opened turned × Stays (lanes_of C.steps S.Stream.told turned) (lanes_of C.steps S.Stream.told self.new.opened) × StatesStay turned self.new.opened }
         ensures there { is_open_at key self.new.opened ≡ is_open_at key self.old.opened }
         ensures woken { TakesOff key self.old.opened self.new.opened }
     {
@@ -537,7 +537,7 @@ impl<S: System + Drop, C: LoopCore, T: Time + Drop> Rounds<S, C, T> {
 
     // If bytes moved on a connection, notes when.
     fn mark_moved(&mut self, key: usize, has_moved: bool)
-        ensures lanes { Stays (lanes_of S.Stream.told self.old.opened) (lanes_of S.Stream.told self.new.opened) }
+        ensures lanes { Stays (lanes_of C.steps S.Stream.told self.old.opened) (lanes_of C.steps S.Stream.told self.new.opened) }
         ensures ready { StatesStay self.old.opened self.new.opened }
         ensures clock { IsTrue has_moved → IsNoted key self.new.opened self.new.seconds.counted self.new.seconds.last }
         ensures read { IsTrue has_moved → IsRead T.tells self.old.seconds.time self.old.seconds.last self.new.seconds.last }
@@ -553,7 +553,7 @@ impl<S: System + Drop, C: LoopCore, T: Time + Drop> Rounds<S, C, T> {
 
     // What follows from a turn.
     fn follow<J: Journal>(&mut self, key: usize, outcome: Outcome, journal: &mut J)
-        ensures lanes { DoesAtMost C.steps (LetGo key) (lanes_of S.Stream.told self.old.opened) (lanes_of S.Stream.told self.new.opened) }
+        ensures lanes { DoesAtMost C.steps (LetGo key) (lanes_of C.steps S.Stream.told self.old.opened) (lanes_of C.steps S.Stream.told self.new.opened) }
         ensures others { OthersStand key self.old.opened self.new.opened }
         ensures follows { IsTrue (is_open_at key self.old.opened) → key < 2 ^ 32 → Follows C.steps S.Stream.told key outcome self.old.opened self.new.opened }
         ensures woken { Wakes key self.old.opened self.new.opened }
@@ -567,7 +567,7 @@ impl<S: System + Drop, C: LoopCore, T: Time + Drop> Rounds<S, C, T> {
 
     // After a turn at a connection that is open.
     fn go_on<J: Journal>(&mut self, key: usize, journal: &mut J)
-        ensures lanes { DoesAtMost C.steps (LetGo key) (lanes_of S.Stream.told self.old.opened) (lanes_of S.Stream.told self.new.opened) }
+        ensures lanes { DoesAtMost C.steps (LetGo key) (lanes_of C.steps S.Stream.told self.old.opened) (lanes_of C.steps S.Stream.told self.new.opened) }
         ensures others { OthersStand key self.old.opened self.new.opened }
         ensures follows { IsTrue (is_open_at key self.old.opened) → key < 2 ^ 32 → Follows C.steps S.Stream.told key Outcome.Open self.old.opened self.new.opened }
         ensures woken { Wakes key self.old.opened self.new.opened }
@@ -583,7 +583,7 @@ impl<S: System + Drop, C: LoopCore, T: Time + Drop> Rounds<S, C, T> {
 
     // Tells the journal of a slow query.
     fn tell_slow<J: Journal>(&mut self, journal: &mut J)
-        ensures lanes { Stays (lanes_of S.Stream.told self.old.opened) (lanes_of S.Stream.told self.new.opened) }
+        ensures lanes { Stays (lanes_of C.steps S.Stream.told self.old.opened) (lanes_of C.steps S.Stream.told self.new.opened) }
         ensures ready { StatesStay self.old.opened self.new.opened }
         ensures woken { StaysWoken self.old.opened self.new.opened }
     {
@@ -595,9 +595,9 @@ impl<S: System + Drop, C: LoopCore, T: Time + Drop> Rounds<S, C, T> {
     // A connection that is over is closed. Where bytes may be unread, what still comes is read for a little while before, since a close
     // with bytes unread can take the last replies with it.
     pub fn finish<J: Journal>(&mut self, key: usize, how: End, journal: &mut J)
-        ensures lanes { DoesAtMost C.steps (LetGo key) (lanes_of S.Stream.told self.old.opened) (lanes_of S.Stream.told self.new.opened) }
+        ensures lanes { DoesAtMost C.steps (LetGo key) (lanes_of C.steps S.Stream.told self.old.opened) (lanes_of C.steps S.Stream.told self.new.opened) }
         ensures others { OthersStand key self.old.opened self.new.opened }
-        ensures closes { IsTrue (is_open_at key self.old.opened) → key < 2 ^ 32 → Does C.steps (LetGo key) (lanes_of S.Stream.told self.old.opened) (lanes_of S.Stream.told self.new.opened) }
+        ensures closes { IsTrue (is_open_at key self.old.opened) → key < 2 ^ 32 → Does C.steps (LetGo key) (lanes_of C.steps S.Stream.told self.old.opened) (lanes_of C.steps S.Stream.told self.new.opened) }
         ensures woken { Wakes key self.old.opened self.new.opened }
         ensures tried { S.tried self.new.system ≡ S.tried self.old.system }
     {
@@ -616,9 +616,9 @@ impl<S: System + Drop, C: LoopCore, T: Time + Drop> Rounds<S, C, T> {
     }
 
     fn linger(&mut self, key: usize)
-        ensures lanes { DoesAtMost C.steps (LetGo key) (lanes_of S.Stream.told self.old.opened) (lanes_of S.Stream.told self.new.opened) }
+        ensures lanes { DoesAtMost C.steps (LetGo key) (lanes_of C.steps S.Stream.told self.old.opened) (lanes_of C.steps S.Stream.told self.new.opened) }
         ensures others { OthersStand key self.old.opened self.new.opened }
-        ensures closes { IsTrue (is_open_at key self.old.opened) → key < 2 ^ 32 → Does C.steps (LetGo key) (lanes_of S.Stream.told self.old.opened) (lanes_of S.Stream.told self.new.opened) }
+        ensures closes { IsTrue (is_open_at key self.old.opened) → key < 2 ^ 32 → Does C.steps (LetGo key) (lanes_of C.steps S.Stream.told self.old.opened) (lanes_of C.steps S.Stream.told self.new.opened) }
         ensures woken { Wakes key self.old.opened self.new.opened }
         ensures tried { S.tried self.new.system ≡ S.tried self.old.system }
     {
@@ -626,9 +626,9 @@ impl<S: System + Drop, C: LoopCore, T: Time + Drop> Rounds<S, C, T> {
     }
 
     pub(crate) fn close(&mut self, key: usize)
-        ensures lanes { DoesAtMost C.steps (LetGo key) (lanes_of S.Stream.told self.old.opened) (lanes_of S.Stream.told self.new.opened) }
+        ensures lanes { DoesAtMost C.steps (LetGo key) (lanes_of C.steps S.Stream.told self.old.opened) (lanes_of C.steps S.Stream.told self.new.opened) }
         ensures others { OthersStand key self.old.opened self.new.opened }
-        ensures closes { IsTrue (is_open_at key self.old.opened) → key < 2 ^ 32 → Does C.steps (LetGo key) (lanes_of S.Stream.told self.old.opened) (lanes_of S.Stream.told self.new.opened) }
+        ensures closes { IsTrue (is_open_at key self.old.opened) → key < 2 ^ 32 → Does C.steps (LetGo key) (lanes_of C.steps S.Stream.told self.old.opened) (lanes_of C.steps S.Stream.told self.new.opened) }
         ensures woken { Wakes key self.old.opened self.new.opened }
         ensures tried { S.tried self.new.system ≡ S.tried self.old.system }
     {
@@ -637,7 +637,7 @@ impl<S: System + Drop, C: LoopCore, T: Time + Drop> Rounds<S, C, T> {
 
     // Where a second passed, connections whose time is up are closed, and the journal is told what there is to tell.
     fn look<J: Journal>(&mut self, is_later: bool, journal: &mut J)
-        ensures lanes { DoesOn C.steps (lanes_of S.Stream.told self.old.opened) (lanes_of S.Stream.told self.new.opened) }
+        ensures lanes { DoesOn C.steps (lanes_of C.steps S.Stream.told self.old.opened) (lanes_of C.steps S.Stream.told self.new.opened) }
         ensures woken { StaysWoken self.old.opened self.new.opened }
     {
         steps_join::<C>();
@@ -650,7 +650,7 @@ impl<S: System + Drop, C: LoopCore, T: Time + Drop> Rounds<S, C, T> {
 
     // Closes the connections whose time is up.
     fn tick<J: Journal>(&mut self, journal: &mut J)
-        ensures lanes { DoesOn C.steps (lanes_of S.Stream.told self.old.opened) (lanes_of S.Stream.told self.new.opened) }
+        ensures lanes { DoesOn C.steps (lanes_of C.steps S.Stream.told self.old.opened) (lanes_of C.steps S.Stream.told self.new.opened) }
         ensures woken { StaysWoken self.old.opened self.new.opened }
     {
         steps_join::<C>();
@@ -661,8 +661,8 @@ impl<S: System + Drop, C: LoopCore, T: Time + Drop> Rounds<S, C, T> {
 
     // Closes a connection whose time is up.
     fn expire<J: Journal>(&mut self, key: usize, journal: &mut J)
-        ensures lanes { DoesAtMost C.steps (LetGo key) (lanes_of S.Stream.told self.old.opened) (lanes_of S.Stream.told self.new.opened) }
-        ensures spares { expiry_at key self.old.seconds.last self.old.limits self.old.opened ≡ Outcome.Open → parting_of self.old.drained self.old.desk.standing.grace self.old.seconds.last ≡ Parting.Served → Stays (lanes_of S.Stream.told self.old.opened) (lanes_of S.Stream.told self.new.opened) }
+        ensures lanes { DoesAtMost C.steps (LetGo key) (lanes_of C.steps S.Stream.told self.old.opened) (lanes_of C.steps S.Stream.told self.new.opened) }
+        ensures spares { expiry_at key self.old.seconds.last self.old.limits self.old.opened ≡ Outcome.Open → parting_of self.old.drained self.old.desk.standing.grace self.old.seconds.last ≡ Parting.Served → Stays (lanes_of C.steps S.Stream.told self.old.opened) (lanes_of C.steps S.Stream.told self.new.opened) }
         ensures woken { StaysWoken self.old.opened self.new.opened }
     {
         match self.opened.expiry(key, self.seconds.last(), &self.limits) {
@@ -675,10 +675,11 @@ impl<S: System + Drop, C: LoopCore, T: Time + Drop> Rounds<S, C, T> {
     // Has a connection that is owed bytes try to write, and does what a drain does to it. The system reports room only once a third of its buffer
     // is free: a slow peer takes a minute and more for that.
     fn tend<J: Journal>(&mut self, key: usize, journal: &mut J)
-        ensures lanes { DoesAtMost C.steps (LetGo key) (lanes_of S.Stream.told self.old.opened) (lanes_of S.Stream.told self.new.opened) }
-        ensures served { parting_of self.old.drained self.old.desk.standing.grace self.old.seconds.last ≡ Parting.Served → Stays (lanes_of S.Stream.told self.old.opened) (lanes_of S.Stream.told self.new.opened) }
+        ensures lanes { DoesAtMost C.steps (LetGo key) (lanes_of C.steps S.Stream.told self.old.opened) (lanes_of C.steps S.Stream.told self.new.opened) }
+        ensures served { parting_of self.old.drained self.old.desk.standing.grace self.old.seconds.last ≡ Parting.Served → Stays (lanes_of C.steps S.Stream.told self.old.opened) (lanes_of C.steps S.Stream.told self.new.opened) }
         ensures woken { StaysWoken self.old.opened self.new.opened }
     {
+        steps_join::<C>();
         if !self.opened.rests(key) {
             self.opened.note_report(room_at(key));
         }
@@ -687,7 +688,7 @@ impl<S: System + Drop, C: LoopCore, T: Time + Drop> Rounds<S, C, T> {
 
     // Tells the journal what there is to tell.
     fn tell_journal<J: Journal>(&mut self, journal: &mut J)
-        ensures lanes { Stays (lanes_of S.Stream.told self.old.opened) (lanes_of S.Stream.told self.new.opened) }
+        ensures lanes { Stays (lanes_of C.steps S.Stream.told self.old.opened) (lanes_of C.steps S.Stream.told self.new.opened) }
         ensures woken { StaysWoken self.old.opened self.new.opened }
     {
         let holding = Holding {

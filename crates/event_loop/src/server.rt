@@ -52,7 +52,7 @@ impl<'r, R: Net + Clock + AllocGlobal, C: LoopCore> Server<Sockets, C, Since<'r,
         ensures none_taken { IfOk result (λ server. server.taken ≡ 0) }
         ensures limits { IfOk result (λ server. server.limits ≡ limits) }
         ensures core { IfOk result (λ server. server.core ≡ core) }
-        ensures none { IfOk result (λ server. (q : ℕ) → (lanes_in server).lines q ≡ None) }
+        ensures none { IfOk result (λ server. (q : ℕ) → (lanes_in C.steps server).lines q ≡ None) }
         ensures budgets { IfOk result (λ server. server.budgets ≡ fresh_budgets limits.memory) }
         ensures woken { IfOk result (λ server. NobodyIsForgotten server) }
         ensures joined { IfOk result (λ server. AreJoined server) }
@@ -101,7 +101,7 @@ impl<S: System + Drop, C: LoopCore, T: Time + Drop> Server<S, C, T> {
         ensures none_taken { IfOk result (λ server. server.taken ≡ 0) }
         ensures limits { IfOk result (λ server. server.limits ≡ limits) }
         ensures core { IfOk result (λ server. server.core ≡ core) }
-        ensures none { IfOk result (λ server. (q : ℕ) → (lanes_in server).lines q ≡ None) }
+        ensures none { IfOk result (λ server. (q : ℕ) → (lanes_in C.steps server).lines q ≡ None) }
         ensures budgets { IfOk result (λ server. server.budgets ≡ fresh_budgets limits.memory) }
         ensures woken { IfOk result (λ server. NobodyIsForgotten server) }
         ensures joined { IfOk result (λ server. AreJoined server) }
@@ -147,10 +147,10 @@ impl<S: System + Drop, C: LoopCore, T: Time + Drop> Server<S, C, T> {
     /// `Net` if the system does not say what is ready, `Memory` if an allocation failed that was not for one connection.
     pub fn serve<J: Journal>(&mut self, journal: &mut J) -> Result<(), LoopFault>
         ensures over { OnOk result (IsOver self.new) }
-        ensures steps { DoesSome C.steps (lanes_in self.old) (lanes_in self.new) }
-        ensures rounds { OnOk result (GoesSomeRounds S.Stream T C.steps S.Stream.told C.may_wait C.longs self.old self.new) }
-        ensures fails { IfErr result (λ fault. FailsBehind S.Stream T C.steps S.Stream.told C.may_wait C.longs fault self.old self.new) }
-        ensures deaf { IsFalse self.old.listens → StaysDeaf self.old self.new }
+        ensures steps { DoesSome C.steps (lanes_in C.steps self.old) (lanes_in C.steps self.new) }
+        ensures rounds { OnOk result (GoesSomeRounds S.Stream T C.steps S.Stream.told C.waits C.longs self.old self.new) }
+        ensures fails { IfErr result (λ fault. FailsBehind S.Stream T C.steps S.Stream.told C.waits C.longs fault self.old self.new) }
+        ensures deaf { IsFalse self.old.listens → StaysDeaf C.steps self.old self.new }
         ensures limits { limits_in self.new.budgets ≡ limits_in self.old.budgets }
         ensures joined { AreJoined self.old → AreJoined self.new }
         ensures within { IsWithin self.new.budgets }
@@ -170,10 +170,10 @@ impl<S: System + Drop, C: LoopCore, T: Time + Drop> Server<S, C, T> {
     // Goes round until it is over.
     fn run<J: Journal>(&mut self, journal: &mut J) -> Result<(), LoopFault>
         ensures over { OnOk result (IsOver self.new) }
-        ensures steps { DoesSome C.steps (lanes_in self.old) (lanes_in self.new) }
-        ensures rounds { OnOk result (GoesSomeRounds S.Stream T C.steps S.Stream.told C.may_wait C.longs self.old self.new) }
-        ensures fails { IfErr result (λ fault. FailsBehind S.Stream T C.steps S.Stream.told C.may_wait C.longs fault self.old self.new) }
-        ensures deaf { IsFalse self.old.listens → StaysDeaf self.old self.new }
+        ensures steps { DoesSome C.steps (lanes_in C.steps self.old) (lanes_in C.steps self.new) }
+        ensures rounds { OnOk result (GoesSomeRounds S.Stream T C.steps S.Stream.told C.waits C.longs self.old self.new) }
+        ensures fails { IfErr result (λ fault. FailsBehind S.Stream T C.steps S.Stream.told C.waits C.longs fault self.old self.new) }
+        ensures deaf { IsFalse self.old.listens → StaysDeaf C.steps self.old self.new }
     {
         steps_join::<C>();
         'rounds: for _gone in 0..u64::MAX {
@@ -201,10 +201,10 @@ impl<S: System + Drop, C: LoopCore, T: Time + Drop> Server<S, C, T> {
     ///
     /// Those of [`Server::serve`].
     pub fn step<J: Journal>(&mut self, journal: &mut J) -> Result<(), LoopFault>
-        ensures steps { DoesSome C.steps (lanes_in self.old) (lanes_in self.new) }
-        ensures deaf { IsFalse self.old.listens → StaysDeaf self.old self.new }
+        ensures steps { DoesSome C.steps (lanes_in C.steps self.old) (lanes_in C.steps self.new) }
+        ensures deaf { IsFalse self.old.listens → StaysDeaf C.steps self.old self.new }
         ensures drains { OnOk result (IsTrue (is_some self.new.grace) → IsFalse self.new.listens) }
-        ensures turns { OnOk result (GivesTurns S.Stream T C.steps S.Stream.told C.may_wait C.longs self.old self.new) }
+        ensures turns { OnOk result (GivesTurns S.Stream T C.steps S.Stream.told C.waits C.longs self.old self.new) }
         ensures woken { NobodyIsForgotten self.old → OnOk result (NobodyIsForgotten self.new) }
         ensures fault { IfErr result (λ fault. ComesOfWaiting fault self.new.failed) }
         ensures limits { limits_in self.new.budgets ≡ limits_in self.old.budgets }
@@ -217,10 +217,10 @@ impl<S: System + Drop, C: LoopCore, T: Time + Drop> Server<S, C, T> {
     }
 
     fn round<J: Journal>(&mut self, journal: &mut J) -> Result<(), LoopFault>
-        ensures steps { DoesSome C.steps (lanes_in self.old) (lanes_in self.new) }
-        ensures deaf { IsFalse self.old.listens → StaysDeaf self.old self.new }
+        ensures steps { DoesSome C.steps (lanes_in C.steps self.old) (lanes_in C.steps self.new) }
+        ensures deaf { IsFalse self.old.listens → StaysDeaf C.steps self.old self.new }
         ensures drains { OnOk result (IsTrue (is_some self.new.grace) → IsFalse self.new.listens) }
-        ensures turns { OnOk result (GivesTurns S.Stream T C.steps S.Stream.told C.may_wait C.longs self.old self.new) }
+        ensures turns { OnOk result (GivesTurns S.Stream T C.steps S.Stream.told C.waits C.longs self.old self.new) }
         ensures woken { NobodyIsForgotten self.old → OnOk result (NobodyIsForgotten self.new) }
         ensures fault { IfErr result (λ fault. ComesOfWaiting fault self.new.failed) }
     {

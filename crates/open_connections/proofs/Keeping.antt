@@ -23,7 +23,7 @@ use Rattle.connection_turns.specs.declared.connection.Connection.{Connection}
 use Rattle.outbox.specs.declared.readiness.Readiness.{Readiness}
 use Rattle.connection_turns.specs.declared.connection.Phase.{Phase}
 use Rattle.open_connections.specs.declared.open.Open.{Open}
-use Rattle.open_connections.specs.Looping.{Stays}
+use Rattle.open_connections.specs.Looping.{PassedBy}
 use Rattle.open_connections.specs.Opened.{is_open_at, lanes_of}
 use Rattle.open_connections.specs.Turns.{AreCovered, IsForReply, Keep, OthersStand, StatesStay, asked_by, is_held_in, is_queued_in, number_at, standing_of}
 use Rattle.open_connections.proofs.Steps.{everywhere, written}
@@ -131,8 +131,8 @@ pub most_at : {C : Type 0} (answers : ℕ → C → List ℕ → C → Type 0) (
 most_at answers conn key inner core most n e h = rw (sym n, sym e) h
 
 -- from where nothing changed, and where its share stays
-pub covered_from : {S C T : Type 0} (s : CoreSteps C) (told : S → Option Traffic) (key : ℕ) (a b c : Open S C T) → Stays (lanes_of told a) (lanes_of told b) → AreCovered s key b c → AreCovered s key a c
-covered_from {S} {C} s told key a b c h k = λ j reply core x. k (h.joined j) reply core (subst (λ (z : C). s.answers key z reply core) (sym h.core_stays) x)
+pub covered_from : {S C T : Type 0} (s : CoreSteps C) (told : S → Option Traffic) (key : ℕ) (a b c : Open S C T) → PassedBy key (lanes_of s told a) (lanes_of s told b) → AreCovered s key b c → AreCovered s key a c
+covered_from {S} {C} s told key a b c h k = λ j reply core x. k (h.others.joined j) reply core (subst (λ (z : s.Seen). s.answers key z reply core) (sym h.core_stays) x)
 
 pub covered_then : {S C T : Type 0} (s : CoreSteps C) (key : ℕ) (a b c : Open S C T) → claim_at c.connections key ≡ claim_at b.connections key → AreCovered s key a b → AreCovered s key a c
 covered_then s key a b c e k = λ j reply core x. subst (λ (z : Option Claim). is_covered z (length reply) ≡ true) (sym e) (k j reply core x)

@@ -1,8 +1,9 @@
 -- What a turn at one connection comes to.
 use Rattle.std.proofs.Common.{refl, ◌≡◌, ◌<◌, ◌^◌, ℕ, List, Bool, true, false, Option, Some, None, Result, Ok, Err, sym, ap, ◌∙◌, subst, inl, inr}
-use Rattle.std.specs.Prelude.{IfSome, IsFalse, length}
+use Rattle.std.specs.Prelude.{IfSome, IsFalse, length, ◌&&◌}
 use Rattle.std.specs.Option.{option_map, option_map_or}
 use Rattle.slab.specs.Slab.{Slab, get, Updates}
+use Rattle.outbox.specs.Appends.{OthersKeep}
 use Rattle.outbox.specs.Lines.{Event, is_over, read, sent}
 use Rattle.outbox.specs.Traffic.{Traffic, IsReadOn, moved}
 use Rattle.outbox.specs.Turns.{DoesAll}
@@ -20,25 +21,25 @@ use Rattle.connection_turns.specs.declared.connection.TurnPlan.TheVariants.{Answ
 use Rattle.open_connections.specs.declared.budgets.Budgets.{Budgets}
 use Rattle.open_connections.specs.declared.open.Open.{Open}
 use Rattle.connection_turns.specs.Cores.{CoreSteps}
-use Rattle.open_connections.specs.Looping.{CountsMoved, Does, Drained, HasTurn, Stays}
+use Rattle.open_connections.specs.Looping.{CountsMoved, Does, Drained, HasTurn, PassedBy}
 use Rattle.open_connections.specs.Opened.{bytes_of, lanes_of, wires_in}
 use Rattle.open_connections.specs.Joined.{Joined}
 use Rattle.open_connections.specs.Shares.{claim_at, limits_in}
 use Rattle.open_connections.specs.Turns.{AreCovered, DrainsAt, GetsTurn, GetsTurnIn, HasTurnBy, HasTurnIn, Prepares, StatesStay, TurnsBy, has_room, is_answering, plan_at, plan_in, standing_of}
 use Rattle.open_connections.proofs.Joined.{claim_is, part_of, same_joined}
-use Rattle.open_connections.proofs.Looping.{before_others, counts_from}
+use Rattle.open_connections.proofs.Looping.{before_drain, before_turn}
 use Rattle.open_connections.proofs.Steps.{does_all, lanes, line_at, others_stay, wire_at}
 
 -- the turn of one that is served, as a step has it
-pub turn_lanes : {S C : Type 0} (s : CoreSteps C) (told : S → Option Traffic) (can : Bool) (budgets budgets' : Budgets) (bytes bytes' : ℕ × ℕ) (core core' : C) (slab slab' : Slab (Connection S)) (key conn : ℕ) (c c' : Connection S) (takes answers : C → List ℕ → C → Type 0)
-    → ((old : C) (piece : List ℕ) (new : C) → takes old piece new → s.takes conn old piece new) → ((old : C) (reply : List ℕ) (new : C) → answers old reply new → s.answers conn old reply new)
+pub turn_lanes : {S C : Type 0} (s : CoreSteps C) (told : S → Option Traffic) (can : Bool) (budgets budgets' : Budgets) (bytes bytes' : ℕ × ℕ) (core core' : C) (slab slab' : Slab (Connection S)) (key conn : ℕ) (c c' : Connection S) (takes answers : s.Seen → List ℕ → s.Seen → Type 0)
+    → ((old : s.Seen) (piece : List ℕ) (new : s.Seen) → takes old piece new → s.takes conn old piece new) → ((old : s.Seen) (reply : List ℕ) (new : s.Seen) → answers old reply new → s.answers conn old reply new)
     → conn ≡ key → get slab key ≡ Some c → Updates slab slab' key (Some c') → budgets' ≡ budgets → c'.claim ≡ c.claim → c.phase ≡ Served → c'.phase ≡ c.phase
-    → Progresses takes answers can (moment_of told core c) (moment_of told core' c') → CountsMoved (wire_of told c) (wire_of told c') bytes bytes' → Does s (HasTurn key) (lanes told budgets bytes core slab) (lanes told budgets' bytes' core' slab')
-turn_lanes {S} {C} s told can budgets budgets' bytes bytes' core core' slab slab' key conn c c' takes answers t a n h u l q p k d w =
+    → OthersKeep s.left conn core core' → Progresses takes answers can (moment_of told (s.seen core) c) (moment_of told (s.seen core') c') → CountsMoved (wire_of told c) (wire_of told c') bytes bytes' → Does s (HasTurn key) (lanes s told budgets bytes core slab) (lanes s told budgets' bytes' core' slab')
+turn_lanes {S} {C} s told can budgets budgets' bytes bytes' core core' slab slab' key conn c c' takes answers t a n h u l q p k o d w =
     let es : List Event = d.turn.events in
     let was : line_of c ≡ Some c.outbox = ap (λ (x : Phase). line_in x c.outbox) p in
     let is : line_of c' ≡ Some c'.outbox = ap (λ (x : Phase). line_in x c'.outbox) (k ∙ p) in
-    let others = others_stay told budgets bytes bytes' core core' slab slab' key (Some c') u (same_joined slab slab' key (Some c') u budgets (ap (λ (x : Option Claim). option_map part_of x) (q ∙ sym (claim_is slab key c c.claim h refl)))) in
+    let others = others_stay s told budgets bytes bytes' core core' slab slab' key (Some c') u (λ r e. o r (λ i. e (i ∙ n))) (same_joined slab slab' key (Some c') u budgets (ap (λ (x : Option Claim). option_map part_of x) (q ∙ sym (claim_is slab key c c.claim h refl)))) in
     record {
       line = c.outbox;
       line' = c'.outbox;
@@ -48,21 +49,21 @@ turn_lanes {S} {C} s told can budgets budgets' bytes bytes' core core' slab slab
         events = es;
         line_is = d.turn.line_is;
         wire_is = wire_at told (get slab' key) (Some c') u.changed ∙ d.turn.wire_is ∙ ap (λ (x : Option Traffic). moved (read c.outbox es) (sent c.outbox es) x) (sym (wire_at told (get slab key) (Some c) h));
-        core_is = subst (λ (m : ℕ). DoesAll (s.takes m) (s.answers m) c.outbox es core core') n (does_all s conn takes answers t a c.outbox es core core' d.turn.core_is);
+        core_is = subst (λ (m : ℕ). DoesAll (s.takes m) (s.answers m) c.outbox es (s.seen core) (s.seen core')) n (does_all s conn takes answers t a c.outbox es (s.seen core) (s.seen core') d.turn.core_is);
       };
       counts = subst (λ (x : Option Traffic). CountsMoved x (wires_in told slab' key) bytes bytes') (sym (wire_at told (get slab key) (Some c) h)) (subst (λ (x : Option Traffic). CountsMoved (wire_of told c) x bytes bytes') (sym (wire_at told (get slab' key) (Some c') u.changed)) w);
-      others = record { lines_stay = others.lines_stay; wires_stay = others.wires_stay; limits_stay = ap limits_in l; joined = subst (λ (b : Budgets). Joined (claim_at slab) budgets → Joined (claim_at slab') b) (sym l) others.joined };
+      others = record { lines_stay = others.lines_stay; wires_stay = others.wires_stay; tasks_stay = others.tasks_stay; limits_stay = ap limits_in l; joined = subst (λ (b : Budgets). Joined (claim_at slab) budgets → Joined (claim_at slab') b) (sym l) others.joined };
     }
 
 -- one that is served has its turn by a plan
-pub turned_by : {S C T : Type 0} (s : CoreSteps C) (told : S → Option Traffic) (plan : TurnPlan) (key conn : ℕ) (result : Outcome) (o o' : Open S C T) (c c' : Connection S) (takes answers : C → List ℕ → C → Type 0)
-    → ((old : C) (piece : List ℕ) (new : C) → takes old piece new → s.takes conn old piece new) → ((old : C) (reply : List ℕ) (new : C) → answers old reply new → s.answers conn old reply new)
+pub turned_by : {S C T : Type 0} (s : CoreSteps C) (told : S → Option Traffic) (plan : TurnPlan) (key conn : ℕ) (result : Outcome) (o o' : Open S C T) (c c' : Connection S) (takes answers : s.Seen → List ℕ → s.Seen → Type 0)
+    → ((old : s.Seen) (piece : List ℕ) (new : s.Seen) → takes old piece new → s.takes conn old piece new) → ((old : s.Seen) (reply : List ℕ) (new : s.Seen) → answers old reply new → s.answers conn old reply new)
     → conn ≡ key → get o.connections key ≡ Some c → Updates o.connections o'.connections key (Some c') → o'.budgets ≡ o.budgets → c'.claim ≡ c.claim → c.phase ≡ Served → c'.phase ≡ c.phase
-    → Progresses takes answers (can_go_by plan c.ready c.outbox) (moment_of told o.core c) (moment_of told o'.core c') → CountsMoved (wire_of told c) (wire_of told c') (bytes_of o) (bytes_of o') → ends result ≡ is_over c'.outbox → Adds plan (s.answers key) o.core (length c.outbox.owed) (length c'.outbox.owed) → TurnsBy s told plan key c.ready result o o'
+    → OthersKeep s.left conn o.core o'.core → Progresses takes answers (can_go_by plan c.ready c.outbox) (moment_of told (s.seen o.core) c) (moment_of told (s.seen o'.core) c') → CountsMoved (wire_of told c) (wire_of told c') (bytes_of o) (bytes_of o') → ends result ≡ is_over c'.outbox → Adds plan (s.answers key) (s.seen o.core) (length c.outbox.owed) (length c'.outbox.owed) → TurnsBy s told plan key c.ready result o o'
 unfolding turn_lanes
-turned_by {S} s told plan key conn result o o' c c' takes answers t a n h u l q p k d w e f =
+turned_by {S} s told plan key conn result o o' c c' takes answers t a n h u l q p k z d w e f =
     record {
-      turn = turn_lanes s told (can_go_by plan c.ready c.outbox) o.budgets o'.budgets (bytes_of o) (bytes_of o') o.core o'.core o.connections o'.connections key conn c c' takes answers t a n h u l q p k d w;
+      turn = turn_lanes s told (can_go_by plan c.ready c.outbox) o.budgets o'.budgets (bytes_of o) (bytes_of o') o.core o'.core o.connections o'.connections key conn c c' takes answers t a n h u l q p k z d w;
       ready' = c'.ready;
       is_ready = ap (λ (x : Option (Connection S)). option_map {U = Phase × Readiness} (λ c. (c.phase, c.ready)) x) u.changed ∙ ap (λ (x : Phase). Some (x, c'.ready)) (k ∙ p);
       goes_on = d.goes_on;
@@ -74,16 +75,16 @@ turned_by {S} s told plan key conn result o o' c c' takes answers t a n h u l q 
 -- one that lingers is read, as a step has it
 pub drain_lanes : {S C : Type 0} (s : CoreSteps C) (told : S → Option Traffic) (budgets budgets' : Budgets) (bytes bytes' : ℕ × ℕ) (core core' : C) (slab slab' : Slab (Connection S)) (key : ℕ) (c c' : Connection S)
     → get slab key ≡ Some c → Updates slab slab' key (Some c') → budgets' ≡ budgets → c'.claim ≡ c.claim → core' ≡ core → bytes' ≡ bytes → c.phase ≡ Lingering → line_of c' ≡ line_of c → IsReadOn (wire_of told c) (wire_of told c')
-    → Does s (Drained key) (lanes told budgets bytes core slab) (lanes told budgets' bytes' core' slab')
+    → Does s (Drained key) (lanes s told budgets bytes core slab) (lanes s told budgets' bytes' core' slab')
 drain_lanes {S} {C} s told budgets budgets' bytes bytes' core core' slab slab' key c c' h u l q m b p e r =
     let none : line_of c ≡ None = ap (λ (x : Phase). line_in x c.outbox) p in
-    let others = others_stay told budgets bytes bytes' core core' slab slab' key (Some c') u (same_joined slab slab' key (Some c') u budgets (ap (λ (x : Option Claim). option_map part_of x) (q ∙ sym (claim_is slab key c c.claim h refl)))) in
+    let others = others_stay s told budgets bytes bytes' core core' slab slab' key (Some c') u (λ r e. ap (s.left r) m) (same_joined slab slab' key (Some c') u budgets (ap (λ (x : Option Claim). option_map part_of x) (q ∙ sym (claim_is slab key c c.claim h refl)))) in
     record {
-      core_stays = m;
+      core_stays = ap s.seen m;
       was_gone = line_at (get slab key) (Some c) h ∙ none;
       is_gone = line_at (get slab' key) (Some c') u.changed ∙ e ∙ none;
       reads_on = subst (λ (x : Option Traffic). IsReadOn x (wires_in told slab' key)) (sym (wire_at told (get slab key) (Some c) h)) (subst (λ (x : Option Traffic). IsReadOn (wire_of told c) x) (sym (wire_at told (get slab' key) (Some c') u.changed)) r);
-      others = record { lines_stay = others.lines_stay; wires_stay = others.wires_stay; limits_stay = ap limits_in l; joined = subst (λ (b : Budgets). Joined (claim_at slab) budgets → Joined (claim_at slab') b) (sym l) others.joined };
+      others = record { lines_stay = others.lines_stay; wires_stay = others.wires_stay; tasks_stay = others.tasks_stay; limits_stay = ap limits_in l; joined = subst (λ (b : Budgets). Joined (claim_at slab) budgets → Joined (claim_at slab') b) (sym l) others.joined };
       bytes_stay = b;
     }
 
@@ -103,94 +104,79 @@ drained_by {S} s told key result o o' c c' h u l q m b p k e r d =
 
 -- a turn from where nothing changed
 then_turned : {S C T : Type 0} (s : CoreSteps C) (told : S → Option Traffic) (plan : TurnPlan) (key : ℕ) (ready : Readiness) (result : Outcome) (a b c : Open S C T)
-    → Stays (lanes_of told a) (lanes_of told b) → TurnsBy s told plan key ready result b c → TurnsBy s told plan key ready result a c
+    → PassedBy key (lanes_of s told a) (lanes_of s told b) → TurnsBy s told plan key ready result b c → TurnsBy s told plan key ready result a c
+unfolding before_turn
 then_turned {S} {C} s told plan key ready result a b c h d =
-    let t = d.turn.takes_turn in
     record {
-      turn = record {
-        line = d.turn.line;
-        line' = d.turn.line';
-        was = sym (h.lines_stay key) ∙ d.turn.was;
-        is = d.turn.is;
-        takes_turn = record {
-          events = t.events;
-          line_is = t.line_is;
-          wire_is = t.wire_is ∙ ap (λ (x : Option Traffic). moved (read d.turn.line t.events) (sent d.turn.line t.events) x) (h.wires_stay key);
-          core_is = subst (λ (x : C). DoesAll (s.takes key) (s.answers key) d.turn.line t.events x c.core) h.core_stays t.core_is;
-        };
-        counts = counts_from key (lanes_of told a) (lanes_of told b) (lanes_of told c) h d.turn.counts;
-        others = before_others key (lanes_of told a) (lanes_of told b) (lanes_of told c) h d.turn.others;
-      };
+      turn = before_turn s key (lanes_of s told a) (lanes_of s told b) (lanes_of s told c) h d.turn;
       ready' = d.ready';
       is_ready = d.is_ready;
       goes_on = d.goes_on;
       rises = d.rises;
       over = d.over;
-      adds = subst (λ (x : C). Adds plan (s.answers key) x (length d.turn.line.owed) (length d.turn.line'.owed)) h.core_stays d.adds;
+      adds = subst (λ (x : s.Seen). Adds plan (s.answers key) x (length d.turn.line.owed) (length d.turn.line'.owed)) h.core_stays d.adds;
     }
 
 then_drained : {S C T : Type 0} (s : CoreSteps C) (told : S → Option Traffic) (key : ℕ) (result : Outcome) (a b c : Open S C T)
-    → Stays (lanes_of told a) (lanes_of told b) → DrainsAt s told key result b c → DrainsAt s told key result a c
+    → PassedBy key (lanes_of s told a) (lanes_of s told b) → DrainsAt s told key result b c → DrainsAt s told key result a c
 then_drained s told key result a b c h d = record {
-  drained = record {
-    core_stays = d.drained.core_stays ∙ h.core_stays;
-    was_gone = sym (h.lines_stay key) ∙ d.drained.was_gone;
-    is_gone = d.drained.is_gone;
-    reads_on = subst (λ (x : Option Traffic). IsReadOn x ((lanes_of told c).wires key)) (h.wires_stay key) d.drained.reads_on;
-    others = before_others key (lanes_of told a) (lanes_of told b) (lanes_of told c) h d.drained.others;
-    bytes_stay = d.drained.bytes_stay ∙ h.bytes_stay;
-  };
+  drained = before_drain s key (lanes_of s told a) (lanes_of s told b) (lanes_of s told c) h d.drained;
   ready' = d.ready';
   is_ready = d.is_ready;
-  goes_on = subst (λ (x : Option Traffic). DrainsOn x ((lanes_of told c).wires key) d.ready' result) (h.wires_stay key) d.goes_on;
+  goes_on = subst (λ (x : Option Traffic). DrainsOn x ((lanes_of s told c).wires key) d.ready' result) h.wire_stays d.goes_on;
 }
 
 -- what was prepared is done
-done_in : {S C T : Type 0} (phase : Phase) (s : CoreSteps C) (told : S → Option Traffic) (may_wait : ℕ → C → Bool) (plan next : TurnPlan) (key : ℕ) (ready : Readiness) (result : Outcome) (a b c : Open S C T)
-    → Stays (lanes_of told a) (lanes_of told b) → Prepares may_wait key (plan_in phase plan) (Ok next) a b → (next ≡ Answer → AreCovered s key a c) → HasTurnIn phase s told next key ready result b c → GetsTurnIn phase s told may_wait (plan_in phase plan) key ready result a c
-done_in {S} {C} {T} Served s told may_wait plan next key ready result a b c h p v d =
+done_in : {S C T : Type 0} (phase : Phase) (s : CoreSteps C) (told : S → Option Traffic) (waits : ℕ → C → Bool) (plan next : TurnPlan) (key : ℕ) (ready : Readiness) (result : Outcome) (a b c : Open S C T)
+    → PassedBy key (lanes_of s told a) (lanes_of s told b) → Prepares waits key (plan_in phase plan) (Ok next) a b → (next ≡ Answer → AreCovered s key a c) → HasTurnIn phase s told next key ready result b c → GetsTurnIn phase s told waits (plan_in phase plan) key ready result a c
+done_in {S} {C} {T} Served s told waits plan next key ready result a b c h p v d =
     let t : TurnsBy s told next key ready result a c = then_turned s told next key ready result a b c h d in
     elim p [
       | inl e ↦ inl (subst (λ (x : TurnPlan). TurnsBy s told x key ready result a c) e t, λ f. v (e ∙ f))
       | inr k ↦ inr (inl (k.1, subst (λ (x : TurnPlan). TurnsBy s told x key ready result a c) k.0 t))
     ]
-done_in Lingering s told may_wait plan next key ready result a b c h p v d = then_drained s told key result a b c h d
+done_in Lingering s told waits plan next key ready result a b c h p v d = then_drained s told key result a b c h d
 
-left_in : {S C T : Type 0} (phase : Phase) (s : CoreSteps C) (told : S → Option Traffic) (may_wait : ℕ → C → Bool) (plan : TurnPlan) (key : ℕ) (ready : Readiness) (result : Outcome) (a c : Open S C T)
-    → Stays (lanes_of told a) (lanes_of told c) → StatesStay a c → Prepares may_wait key (plan_in phase plan) (Err result) a c → GetsTurnIn phase s told may_wait (plan_in phase plan) key ready result a c
-left_in Served s told may_wait plan key ready result a c h k p = inr (inr (h, k, p))
-left_in Lingering s told may_wait plan key ready result a c h k p = elim p [ inl e ↦ let f : false ≡ true = e.1 in absurd cc | inr e ↦ let f : false ≡ true = ap is_answering e.1 in absurd cc ]
+left_in : {S C T : Type 0} (phase : Phase) (s : CoreSteps C) (told : S → Option Traffic) (waits : ℕ → C → Bool) (plan : TurnPlan) (key : ℕ) (ready : Readiness) (result : Outcome) (a c : Open S C T)
+    → PassedBy key (lanes_of s told a) (lanes_of s told c) → StatesStay a c → Prepares waits key (plan_in phase plan) (Err result) a c → GetsTurnIn phase s told waits (plan_in phase plan) key ready result a c
+left_in Served s told waits plan key ready result a c h k p = inr (inr (h, k, p))
+left_in Lingering s told waits plan key ready result a c h k p = elim p [ inl e ↦ let f : false ≡ true = e.1 in absurd cc | inr e ↦ let f : false ≡ true = ap is_answering e.1 in absurd cc ]
 
-pub done_at : {S C T : Type 0} (s : CoreSteps C) (told : S → Option Traffic) (may_wait : ℕ → C → Bool) (next : TurnPlan) (key : ℕ) (result : Outcome) (a b c : Open S C T) (slot slot' : Option (Connection S))
-    → Stays (lanes_of told a) (lanes_of told b) → option_map standing_of slot' ≡ option_map standing_of slot
-    → IfSome slot (λ x. key < 2 ^ 32 → Prepares may_wait key (plan_at x a) (Ok next) a b) → (next ≡ Answer → AreCovered s key a c) → IfSome slot' (λ x. key < 2 ^ 32 → HasTurnBy s told next key x result b c)
-    → IfSome slot (λ x. key < 2 ^ 32 → IsFalse (is_lost x) → GetsTurn s told may_wait key x result a c)
-done_at s told may_wait next key result a b c None slot' h e p v d = tt
-done_at s told may_wait next key result a b c (Some x) None h e p v d = absurd cc
-done_at {S} {C} {T} s told may_wait next key result a b c (Some x) (Some y) h e p v d = λ k l.
+pub done_at : {S C T : Type 0} (s : CoreSteps C) (told : S → Option Traffic) (waits : ℕ → C → Bool) (next : TurnPlan) (key : ℕ) (result : Outcome) (a b c : Open S C T) (slot slot' : Option (Connection S))
+    → PassedBy key (lanes_of s told a) (lanes_of s told b) → option_map standing_of slot' ≡ option_map standing_of slot
+    → IfSome slot (λ x. key < 2 ^ 32 → Prepares waits key (plan_at x a) (Ok next) a b) → (next ≡ Answer → AreCovered s key a c) → IfSome slot' (λ x. key < 2 ^ 32 → HasTurnBy s told next key x result b c)
+    → IfSome slot (λ x. key < 2 ^ 32 → IsFalse (is_lost x) → GetsTurn s told waits key x result a c)
+done_at s told waits next key result a b c None slot' h e p v d = tt
+done_at s told waits next key result a b c (Some x) None h e p v d = absurd cc
+done_at {S} {C} {T} s told waits next key result a b c (Some x) (Some y) h e p v d = λ k l.
     let same : standing_of y ≡ standing_of x = cc in
-    done_in x.phase s told may_wait (plan_of (has_room a.budgets) x) next key x.ready result a b c h (p k) v (subst (λ (z : ℕ × Phase × Readiness). HasTurnIn z.1 s told next key z.2 result b c) same (d k))
+    done_in x.phase s told waits (plan_of (has_room a.budgets) x) next key x.ready result a b c h (p k) v (subst (λ (z : ℕ × Phase × Readiness). HasTurnIn z.1 s told next key z.2 result b c) same (d k))
 
-pub left_at : {S C T : Type 0} (s : CoreSteps C) (told : S → Option Traffic) (may_wait : ℕ → C → Bool) (key : ℕ) (result : Outcome) (a c : Open S C T) (slot : Option (Connection S)) → Stays (lanes_of told a) (lanes_of told c) → StatesStay a c
-    → IfSome slot (λ x. key < 2 ^ 32 → Prepares may_wait key (plan_at x a) (Err result) a c) → IfSome slot (λ x. key < 2 ^ 32 → IsFalse (is_lost x) → GetsTurn s told may_wait key x result a c)
-left_at s told may_wait key result a c None h t p = tt
-left_at s told may_wait key result a c (Some x) h t p = λ k l. left_in x.phase s told may_wait (plan_of (has_room a.budgets) x) key x.ready result a c h t (p k)
+pub left_at : {S C T : Type 0} (s : CoreSteps C) (told : S → Option Traffic) (waits : ℕ → C → Bool) (key : ℕ) (result : Outcome) (a c : Open S C T) (slot : Option (Connection S)) → PassedBy key (lanes_of s told a) (lanes_of s told c) → StatesStay a c
+    → IfSome slot (λ x. key < 2 ^ 32 → Prepares waits key (plan_at x a) (Err result) a c) → IfSome slot (λ x. key < 2 ^ 32 → IsFalse (is_lost x) → GetsTurn s told waits key x result a c)
+left_at s told waits key result a c None h t p = tt
+left_at s told waits key result a c (Some x) h t p = λ k l. left_in x.phase s told waits (plan_of (has_room a.budgets) x) key x.ready result a c h t (p k)
 
 -- one that is lost has none
-pub lost_in : {S C T : Type 0} (s : CoreSteps C) (told : S → Option Traffic) (may_wait : ℕ → C → Bool) (key : ℕ) (result : Outcome) (a c : Open S C T) (slot : Option (Connection S)) → option_map_or (λ x. is_lost x) slot false ≡ true
-    → IfSome slot (λ x. key < 2 ^ 32 → IsFalse (is_lost x) → GetsTurn s told may_wait key x result a c)
-lost_in s told may_wait key result a c None e = tt
-lost_in s told may_wait key result a c (Some x) e = λ k l. let f : true ≡ false = sym e ∙ l in absurd cc
+pub lost_in : {S C T : Type 0} (s : CoreSteps C) (told : S → Option Traffic) (waits : ℕ → C → Bool) (key : ℕ) (result : Outcome) (a c : Open S C T) (slot : Option (Connection S)) → option_map_or (λ x. is_lost x) slot false ≡ true
+    → IfSome slot (λ x. key < 2 ^ 32 → IsFalse (is_lost x) → GetsTurn s told waits key x result a c)
+lost_in s told waits key result a c None e = tt
+lost_in s told waits key result a c (Some x) e = λ k l. let f : true ≡ false = sym e ∙ l in absurd cc
 
 -- what is so of the one that is there
 pub at_slot : {A : Type 0} (P : A → Type 0) (slot : Option A) (x : A) → slot ≡ Some x → P x → IfSome slot P
 at_slot {A} P slot x e h = subst (λ (z : Option A). IfSome z P) (sym e) h
 
 -- what is prepared by the plan of the one that is there
-pub prepared : {S C T : Type 0} (may_wait : ℕ → C → Bool) (key : ℕ) (plan : TurnPlan) (result : Result TurnPlan Outcome) (old new : Open S C T) (slot : Option (Connection S)) → Some plan ≡ option_map (λ c. plan_at c old) slot
-    → IfSome slot (λ _. key < 2 ^ 32 → Prepares may_wait key plan result old new) → IfSome slot (λ c. key < 2 ^ 32 → Prepares may_wait key (plan_at c old) result old new)
-prepared may_wait key plan result old new None e h = tt
-prepared {S} {C} {T} may_wait key plan result old new (Some c) e h = let same : plan ≡ plan_at c old = cc in λ k. subst (λ (x : TurnPlan). Prepares may_wait key x result old new) same (h k)
+-- what comes before a turn rests on the core alone
+pub prepares_from : {S C T : Type 0} (waits : ℕ → C → Bool) (key : ℕ) (plan : TurnPlan) (result : Result TurnPlan Outcome) (a b c : Open S C T) → b.core ≡ a.core → Prepares waits key plan result b c → Prepares waits key plan result a c
+prepares_from {C = C} waits key plan (Ok next) a b c e p = elim p [ inl h ↦ inl h | inr k ↦ inr (k.0, subst (λ (core : C). (is_answering plan && waits key core) ≡ true) e k.1) ]
+prepares_from waits key plan (Err result) a b c e p = p
+
+pub prepared : {S C T : Type 0} (waits : ℕ → C → Bool) (key : ℕ) (plan : TurnPlan) (result : Result TurnPlan Outcome) (old new : Open S C T) (slot : Option (Connection S)) → Some plan ≡ option_map (λ c. plan_at c old) slot
+    → IfSome slot (λ _. key < 2 ^ 32 → Prepares waits key plan result old new) → IfSome slot (λ c. key < 2 ^ 32 → Prepares waits key (plan_at c old) result old new)
+prepared waits key plan result old new None e h = tt
+prepared {S} {C} {T} waits key plan result old new (Some c) e h = let same : plan ≡ plan_at c old = cc in λ k. subst (λ (x : TurnPlan). Prepares waits key x result old new) same (h k)
 
 pub unplanned : {A B : Type 0} (of : A → B) (P : A → Type 0) (slot : Option A) → None ≡ option_map of slot → IfSome slot P
 unplanned of P None e = tt

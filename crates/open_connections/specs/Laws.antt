@@ -10,9 +10,9 @@ use Rattle.open_connections.specs.declared.open.Open.{Open}
 
 -- Where nothing changes twice, nothing changes. A step before which nothing changes is that step, and so is one behind which nothing does.
 pub record JoinsSteps {C : Type 0} (s : CoreSteps C) : Type 0 where
-  pub twice : (a b c : Lanes C) → Stays a b → Stays b c → Stays a c
-  pub before : (step : Step) (a b c : Lanes C) → Stays a b → Does s step b c → Does s step a c
-  pub behind : (step : Step) (a b c : Lanes C) → Does s step a b → Stays b c → Does s step a c
+  pub twice : (a b c : Lanes s.Seen) → Stays a b → Stays b c → Stays a c
+  pub before : (step : Step) (a b c : Lanes s.Seen) → Stays a b → Does s step b c → Does s step a c
+  pub behind : (step : Step) (a b c : Lanes s.Seen) → Does s step a b → Stays b c → Does s step a c
 
 -- States that stay twice stay. If those of all connections stay, those of all but one do, and the same ones are open. Those of all but one stay if they do so twice.
 pub record JoinsStates (S C T : Type 0) : Type 0 where

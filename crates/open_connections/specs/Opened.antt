@@ -8,8 +8,9 @@ use Rattle.connection_turns.specs.declared.claim.Claim.{Claim}
 use Rattle.connection_turns.specs.declared.connection.Connection.{Connection}
 use Rattle.open_connections.specs.declared.open.Open.{Open}
 use Rattle.due_list.specs.declared.due.Due.{Due}
+use Rattle.connection_turns.specs.Cores.{CoreSteps}
 use Rattle.connection_turns.specs.Owed.{line_of, wire_of, is_lost, has_left, rests}
-use Rattle.open_connections.specs.Looping.{Lanes}
+use Rattle.open_connections.specs.Looping.{Lanes, Task}
 use Rattle.due_list.specs.Long.{is_crowded}
 use Rattle.due_list.specs.Rounds as list
 use Rattle.due_list.specs.Rounds.{IsLast, due_at}
@@ -33,8 +34,16 @@ wires_in told slab q = option_and_then (λ c. wire_of told c) (get slab q)
 abbrev pub bytes_of : {S C T : Type 0} → Open S C T → ℕ × ℕ
 bytes_of o = (o.read, o.written)
 
-abbrev pub lanes_of : {S C T : Type 0} → (S → Option Traffic) → Open S C T → Lanes C
-lanes_of told o = record { core = o.core; lines = lines_in o.connections; wires = wires_in told o.connections; claims = claim_at o.connections; budgets = o.budgets; bytes = bytes_of o }
+-- whether the one with this key is due
+abbrev pub is_due_in : {S : Type 0} → Slab (Connection S) → (key : ℕ) → Bool
+is_due_in slab key = option_map_or (λ c. c.is_due) (get slab key) false
+
+-- and how much is left of its work
+abbrev pub task_in : {S C : Type 0} → CoreSteps C → C → Slab (Connection S) → (key : ℕ) → Task
+task_in s core slab key = record { is_due = is_due_in slab key; left = s.left key core }
+
+abbrev pub lanes_of : {S C T : Type 0} → (s : CoreSteps C) → (S → Option Traffic) → Open S C T → Lanes s.Seen
+lanes_of s told o = record { core = s.seen o.core; lines = lines_in o.connections; wires = wires_in told o.connections; claims = claim_at o.connections; budgets = o.budgets; bytes = bytes_of o; tasks = task_in s o.core o.connections }
 
 -- more than 64 KiB are owed on the connection
 abbrev pub owes_much : {S C T : Type 0} → (key : ℕ) → Open S C T → Bool

@@ -27,7 +27,7 @@ use Rattle.open_connections.specs.declared.budgets.Budgets.{Budgets}
 use Rattle.open_connections.specs.declared.open.Open.{Open}
 use Rattle.connection_turns.specs.Cores.{CoreSteps}
 use Rattle.open_connections.specs.Joined.{Joined}
-use Rattle.open_connections.specs.Looping.{Drained, HasTurn, Does, Stays}
+use Rattle.open_connections.specs.Looping.{Drained, HasTurn, Does, PassedBy}
 use Rattle.open_connections.specs.Opened.{lanes_of}
 use Rattle.open_connections.specs.Shares.{claim_at, is_covered}
 
@@ -90,7 +90,7 @@ IsCovered key reply o = IsTrue (is_covered (claim_at o.connections key) reply)
 
 -- whatever may be answered on it now may be given, if each claim has its share
 abbrev pub AreCovered : {S C T : Type 0} → CoreSteps C → (key : ℕ) → Open S C T → Open S C T → Type 0
-AreCovered {C = C} s key old new = Joined (claim_at old.connections) old.budgets → (reply : List ℕ) (core : C) → s.answers key old.core reply core → IsCovered key (length reply) new
+AreCovered {C = C} s key old new = Joined (claim_at old.connections) old.budgets → (reply : List ℕ) (core : s.Seen) → s.answers key (s.seen old.core) reply core → IsCovered key (length reply) new
 
 -- it may be given once its claim is granted
 abbrev pub WillCover : {S C T : Type 0} → (key reply : ℕ) → Open S C T → Type 0
@@ -110,20 +110,20 @@ is_answering All = true
 -- One that is served has its turn by this plan, which adds at most so much to what is owed. If it can do something, bytes or requests of this turn move, or what might have been done
 -- wants a wait. It is over if nothing is read or written any more. If they move nothing, nothing may be done now that might not be before.
 pub record TurnsBy {S C T : Type 0} (s : CoreSteps C) (told : S → Option Traffic) (plan : TurnPlan) (key : ℕ) (ready : Readiness) (result : Outcome) (old new : Open S C T) : Type 0 where
-  pub turn : Does s (HasTurn key) (lanes_of told old) (lanes_of told new)
+  pub turn : Does s (HasTurn key) (lanes_of s told old) (lanes_of s told new)
   pub ready' : Readiness
   pub is_ready : state_at key new ≡ Some (Served, ready')
   pub goes_on : can_go_by plan ready turn.line ≡ true → (moves turn.line turn.takes_turn.events ≡ true) ⊎ HasFallen ready ready'
   pub rises : moves turn.line turn.takes_turn.events ≡ false → HasNotRisen ready ready'
   pub over : ends result ≡ is_over turn.line'
-  pub adds : Adds plan (s.answers key) old.core (length turn.line.owed) (length turn.line'.owed)
+  pub adds : Adds plan (s.answers key) (s.seen old.core) (length turn.line.owed) (length turn.line'.owed)
 
 -- What still comes on one that is served no further is thrown away: bytes came, or a read would wait, or the connection is to be closed.
 pub record DrainsAt {S C T : Type 0} (s : CoreSteps C) (told : S → Option Traffic) (key : ℕ) (result : Outcome) (old new : Open S C T) : Type 0 where
-  pub drained : Does s (Drained key) (lanes_of told old) (lanes_of told new)
+  pub drained : Does s (Drained key) (lanes_of s told old) (lanes_of s told new)
   pub ready' : Readiness
   pub is_ready : state_at key new ≡ Some (Lingering, ready')
-  pub goes_on : DrainsOn ((lanes_of told old).wires key) ((lanes_of told new).wires key) ready' result
+  pub goes_on : DrainsOn ((lanes_of s told old).wires key) ((lanes_of s told new).wires key) ready' result
 
 -- a turn by a plan
 abbrev pub HasTurnIn : {S C T : Type 0} → Phase → CoreSteps C → (S → Option Traffic) → TurnPlan → (key : ℕ) → Readiness → Outcome → Open S C T → Open S C T → Type 0
@@ -143,23 +143,23 @@ plan_at c o = plan_in c.phase (plan_of (has_room o.budgets) c)
 
 -- the plan answers, and the request may wait for a query of its tenant
 abbrev pub StandsBy : {S C T : Type 0} → (ℕ → C → Bool) → (key : ℕ) → TurnPlan → Open S C T → Type 0
-StandsBy may_wait key plan o = IsTrue (is_answering plan && may_wait key o.core)
+StandsBy waits key plan o = IsTrue (is_answering plan && waits key o.core)
 
 -- What comes of a turn before it begins: its plan, or a write alone where it stands by. If it answers, memory may be refused for it. If it answers one request, the reply may wait
 -- for a share.
 abbrev pub Prepares : {S C T : Type 0} → (ℕ → C → Bool) → (key : ℕ) → TurnPlan → Result TurnPlan Outcome → Open S C T → Open S C T → Type 0
-Prepares may_wait key plan (Ok next) old new = (next ≡ plan) ⊎ ((next ≡ Write) × StandsBy may_wait key plan old)
-Prepares may_wait key plan (Err result) old new =
+Prepares waits key plan (Ok next) old new = (next ≡ plan) ⊎ ((next ≡ Write) × StandsBy waits key plan old)
+Prepares waits key plan (Err result) old new =
     ((result ≡ outcome.Over end.Memory) × IsTrue (is_answering plan)) ⊎ ((result ≡ outcome.Open) × (plan ≡ Answer) × IsQueued key new)
 
 -- One that is served has its turn by its plan. If that answers one request, a granted share covers the reply, or it is within what each may have without one. If the plan answers, what is
 -- owed may be written in place of that, where the request may wait for a query. Or nothing is done: memory is refused, or the reply waits for a share.
 abbrev pub GetsTurnIn : {S C T : Type 0} → Phase → CoreSteps C → (S → Option Traffic) → (ℕ → C → Bool) → TurnPlan → (key : ℕ) → Readiness → Outcome → Open S C T → Open S C T → Type 0
-GetsTurnIn Served s told may_wait plan key ready result old new =
+GetsTurnIn Served s told waits plan key ready result old new =
     (TurnsBy s told plan key ready result old new × (plan ≡ Answer → AreCovered s key old new))
-    ⊎ ((StandsBy may_wait key plan old × TurnsBy s told Write key ready result old new)
-    ⊎ (Stays (lanes_of told old) (lanes_of told new) × StatesStay old new × Prepares may_wait key plan (Err result) old new))
-GetsTurnIn Lingering s told may_wait plan key ready result old new = DrainsAt s told key result old new
+    ⊎ ((StandsBy waits key plan old × TurnsBy s told Write key ready result old new)
+    ⊎ (PassedBy key (lanes_of s told old) (lanes_of s told new) × StatesStay old new × Prepares waits key plan (Err result) old new))
+GetsTurnIn Lingering s told waits plan key ready result old new = DrainsAt s told key result old new
 
 abbrev pub GetsTurn : {S C T : Type 0} → CoreSteps C → (S → Option Traffic) → (ℕ → C → Bool) → (key : ℕ) → Connection S → Outcome → Open S C T → Open S C T → Type 0
-GetsTurn s told may_wait key c result old new = GetsTurnIn c.phase s told may_wait (plan_at c old) key c.ready result old new
+GetsTurn s told waits key c result old new = GetsTurnIn c.phase s told waits (plan_at c old) key c.ready result old new

@@ -21,7 +21,7 @@ impl<S: Peer, C: LoopCore, T: Time + Drop> Open<S, C, T> {
     // Whether there is room for the reply to the first request that waits; where it takes a share, that is asked for. The reply's length is
     // looked at right before it is given, since other requests may change it. No share is asked for that is longer than any reply.
     pub(crate) fn may_answer(&mut self, key: usize, now: u64) -> Result<bool, AllocError>
-        ensures lanes { Stays (lanes_of S.told self.old) (lanes_of S.told self.new) }
+        ensures lanes { Stays (lanes_of C.steps S.told self.old) (lanes_of C.steps S.told self.new) }
         ensures ready { StatesStay self.old self.new }
         ensures queued { IfOk result (λ may. IsFalse may → key < 2 ^ 32 → IfSome (get self.old.connections key) (λ _. IsQueued key self.new)) }
         ensures covered { IfOk result (λ may. IsTrue may → AreCovered C.steps key self.old self.new) }
@@ -47,7 +47,7 @@ impl<S: Peer, C: LoopCore, T: Time + Drop> Open<S, C, T> {
 
     // Gives up a share for a reply: a connection that waits for a query holds none. One for a frame is held as from now on.
     pub(crate) fn yield_reply(&mut self, key: usize, now: u64)
-        ensures lanes { Stays (lanes_of S.told self.old) (lanes_of S.told self.new) }
+        ensures lanes { Stays (lanes_of C.steps S.told self.old) (lanes_of C.steps S.told self.new) }
         ensures ready { StatesStay self.old self.new }
         ensures woken { WakesOthers key self.old self.new }
     {
@@ -62,7 +62,7 @@ impl<S: Peer, C: LoopCore, T: Time + Drop> Open<S, C, T> {
 
     // Gives up the share that a connection has, if any.
     fn yield_share(&mut self, key: usize, now: u64)
-        ensures lanes { Stays (lanes_of S.told self.old) (lanes_of S.told self.new) }
+        ensures lanes { Stays (lanes_of C.steps S.told self.old) (lanes_of C.steps S.told self.new) }
         ensures ready { StatesStay self.old self.new }
         ensures given { IsGivenBack (claim_at self.old.connections key) self.new.budgets }
         ensures woken { WakesOthers key self.old self.new }
@@ -73,7 +73,7 @@ impl<S: Peer, C: LoopCore, T: Time + Drop> Open<S, C, T> {
 
     // Gives back the share that a connection has or waits for. What it leaves is granted by [`Open::grant`].
     pub(crate) fn release(&mut self, key: usize)
-        ensures lanes { Stays (lanes_of S.told self.old) (lanes_of S.told self.new) }
+        ensures lanes { Stays (lanes_of C.steps S.told self.old) (lanes_of C.steps S.told self.new) }
         ensures ready { StatesStay self.old self.new }
         ensures given { IsGivenBack (claim_at self.old.connections key) self.new.budgets }
         ensures none { claim_at self.new.connections key ≡ None }
@@ -97,7 +97,7 @@ impl<S: Peer, C: LoopCore, T: Time + Drop> Open<S, C, T> {
 
     // Gives back what is done with of a connection's share.
     pub(crate) fn settle_claim(&mut self, key: usize, has_answered: bool, now: u64)
-        ensures lanes { Stays (lanes_of S.told self.old) (lanes_of S.told self.new) }
+        ensures lanes { Stays (lanes_of C.steps S.told self.old) (lanes_of C.steps S.told self.new) }
         ensures ready { StatesStay self.old self.new }
         ensures given { IfSome (get self.old.connections key) (λ c. IfSome c.claim (λ claim. share_after claim (length c.outbox.owed) has_answered ≡ After.Released → IsGivenBack (Some claim) self.new.budgets)) }
         ensures woken { WakesOthers key self.old self.new }
@@ -131,7 +131,7 @@ impl<S: Peer, C: LoopCore, T: Time + Drop> Open<S, C, T> {
         front: Option<Ahead>,
         now: u64,
     ) -> Result<(), AllocError>
-        ensures lanes { Stays (lanes_of S.told self.old) (lanes_of S.told self.new) }
+        ensures lanes { Stays (lanes_of C.steps S.told self.old) (lanes_of C.steps S.told self.new) }
         ensures ready { StatesStay self.old self.new }
         ensures woken { WakesOthers key self.old self.new }
     {
@@ -146,7 +146,7 @@ impl<S: Peer, C: LoopCore, T: Time + Drop> Open<S, C, T> {
 
     // Asks for a share, and tells whether it is granted. One that waits may come before those that wait already.
     fn claim(&mut self, key: usize, need: &Need, now: u64) -> Result<bool, AllocError>
-        ensures lanes { Stays (lanes_of S.told self.old) (lanes_of S.told self.new) }
+        ensures lanes { Stays (lanes_of C.steps S.told self.old) (lanes_of C.steps S.told self.new) }
         ensures ready { StatesStay self.old self.new }
         ensures queued { IfOk result (λ held. IsFalse held → IfSome (get self.old.connections key) (λ _. IsQueued key self.new)) }
         ensures covered { IfOk result (λ held. IsTrue held → Joined (claim_at self.old.connections) self.old.budgets → IsForReply need.now → IsCovered key need.now.bytes self.new) }
@@ -159,7 +159,7 @@ impl<S: Peer, C: LoopCore, T: Time + Drop> Open<S, C, T> {
 
     // Asks for a share in the place of the one that the connection has.
     fn ask_for(&mut self, key: usize, need: &Need, now: u64) -> Result<(), AllocError>
-        ensures lanes { Stays (lanes_of S.told self.old) (lanes_of S.told self.new) }
+        ensures lanes { Stays (lanes_of C.steps S.told self.old) (lanes_of C.steps S.told self.new) }
         ensures ready { StatesStay self.old self.new }
         ensures claims { OnOk result (IfSome (get self.old.connections key) (λ _. HasClaim key self.new)) }
         ensures covers { OnOk result (Joined (claim_at self.old.connections) self.old.budgets → IsForReply need.now → WillCover key need.now.bytes self.new) }
@@ -176,7 +176,7 @@ impl<S: Peer, C: LoopCore, T: Time + Drop> Open<S, C, T> {
 
     // Grants what there is room for, in order. Those that hold their shares now get turns.
     pub(crate) fn grant(&mut self, now: u64)
-        ensures lanes { Stays (lanes_of S.told self.old) (lanes_of S.told self.new) }
+        ensures lanes { Stays (lanes_of C.steps S.told self.old) (lanes_of C.steps S.told self.new) }
         ensures free { StayFree self.old.budgets self.new.budgets }
         ensures ready { StatesStay self.old self.new }
         ensures claims { ClaimsStay self.old self.new }
@@ -192,7 +192,7 @@ impl<S: Peer, C: LoopCore, T: Time + Drop> Open<S, C, T> {
 
     // Grants the next share that there is room for, and tells which connection holds it now.
     fn grant_next(&mut self, now: u64) -> Option<usize>
-        ensures lanes { Stays (lanes_of S.told self.old) (lanes_of S.told self.new) }
+        ensures lanes { Stays (lanes_of C.steps S.told self.old) (lanes_of C.steps S.told self.new) }
         ensures free { StayFree self.old.budgets self.new.budgets }
         ensures ready { StatesStay self.old self.new }
         ensures claims { ClaimsStay self.old self.new }

@@ -2,13 +2,13 @@
 ghost use Rattle.std.specs.Prelude.{Bool, ◌≡◌, ◌<◌, ◌-◌, ◌^◌, ◌++◌, ◌&&◌, [], ℕ, None, IfOk, OnOk, IfSome, IsTrue, IsFalse};
 ghost use Rattle.std.specs.Option.{option_map};
 ghost use Rattle.slab.specs.Slab.{get, slab_len};
-ghost use Rattle.open_connections.specs.Looping.{Stays, Does, DoesAtMost, TurnsAtMost, TakenIn, LetGo};
+ghost use Rattle.open_connections.specs.Looping.{Stays, Does, DoesAtMost, PassedBy, TurnsAtMost, TakenIn, LetGo};
 ghost use Rattle.std.specs.Bool.{MatchBool};
 ghost use Rattle.outbox.specs.Traffic.{IsUnused};
 ghost use Rattle.connection_turns.specs.Owed.{is_lost};
 ghost use Rattle.due_list.specs.Long.{begun, is_crowded};
 ghost use Rattle.due_list.specs.Rounds.{IsFresh, after_turn, party_of};
-ghost use Rattle.open_connections.specs.Opened.{lanes_of, bytes_of, expiry_at, has_time, is_long, is_there, is_open_at, owes_much, IsMarked, IsPutOff, IsStanding, IsListed, IsAsDue, HasLeft, lost_at, rests_at, tenant_at};
+ghost use Rattle.open_connections.specs.Opened.{lanes_of, bytes_of, expiry_at, has_time, is_long, is_there, is_open_at, owes_much, IsMarked, IsPutOff, IsStanding, IsListed, IsAsDue, is_due_in, HasLeft, lost_at, rests_at, tenant_at};
 ghost use Rattle.open_connections.specs.Joined.{Joined};
 ghost use Rattle.open_connections.specs.Shares.{fresh_budgets, left_of, limit_of, IsWithin, IsGivenBack, claim_at};
 ghost use Rattle.open_connections.specs.Turns.{AreCovered, ClaimsStay, GetsTurn, HasTurnBy, OthersStand, Prepares, StatesStay, is_answering, plan_at};
@@ -69,8 +69,8 @@ impl<S: Peer, C: LoopCore, T: Time + Drop> Open<S, C, T> {
         ensures empty { IfOk result (λ opened. slab_len opened.connections ≡ 0) }
         ensures unread { IfOk result (λ opened. opened.read ≡ 0) }
         ensures unwritten { IfOk result (λ opened. opened.written ≡ 0) }
-        ensures core { IfOk result (λ opened. (lanes_of S.told opened).core ≡ core) }
-        ensures none { IfOk result (λ opened. (q : ℕ) → (lanes_of S.told opened).lines q ≡ None) }
+        ensures core { IfOk result (λ opened. opened.core ≡ core) }
+        ensures none { IfOk result (λ opened. (q : ℕ) → (lanes_of C.steps S.told opened).lines q ≡ None) }
         ensures budgets { IfOk result (λ opened. opened.budgets ≡ fresh_budgets memory) }
         ensures woken { IfOk result (λ opened. IsWoken [] opened) }
         ensures joined { IfOk result (λ opened. Joined (claim_at opened.connections) opened.budgets) }
@@ -117,7 +117,7 @@ impl<S: Peer, C: LoopCore, T: Time + Drop> Open<S, C, T> {
 
     /// The last slow query, which is told once.
     pub fn take_slow(&mut self) -> Option<Slow>
-        ensures lanes { Stays (lanes_of S.told self.old) (lanes_of S.told self.new) }
+        ensures lanes { Stays (lanes_of C.steps S.told self.old) (lanes_of C.steps S.told self.new) }
         ensures ready { StatesStay self.old self.new }
         ensures woken { StaysWoken self.old self.new }
     {
@@ -175,7 +175,7 @@ impl<S: Peer, C: LoopCore, T: Time + Drop> Open<S, C, T> {
 
     /// The key that the next connection gets, and whether there is room for it.
     pub fn vacant(&mut self) -> Option<usize>
-        ensures lanes { Stays (lanes_of S.told self.old) (lanes_of S.told self.new) }
+        ensures lanes { Stays (lanes_of C.steps S.told self.old) (lanes_of C.steps S.told self.new) }
         ensures woken { StaysWoken self.old self.new }
     {
         let room = self.count().saturating_add(1);
@@ -197,7 +197,7 @@ impl<S: Peer, C: LoopCore, T: Time + Drop> Open<S, C, T> {
         now: u64,
     ) -> bool
         requires { IsUnused (S.told stream) }
-        ensures lanes { MatchBool result (Does C.steps (TakenIn key) (lanes_of S.told self.old) (lanes_of S.told self.new)) (Stays (lanes_of S.told self.old) (lanes_of S.told self.new)) }
+        ensures lanes { MatchBool result (Does C.steps (TakenIn key) (lanes_of C.steps S.told self.old) (lanes_of C.steps S.told self.new)) (Stays (lanes_of C.steps S.told self.old) (lanes_of C.steps S.told self.new)) }
         ensures budgets { self.new.budgets ≡ self.old.budgets }
         ensures woken { StaysWoken self.old self.new }
     {
@@ -218,7 +218,7 @@ impl<S: Peer, C: LoopCore, T: Time + Drop> Open<S, C, T> {
 
     /// Notes a report, and that the connection gets a turn.
     pub fn note_report(&mut self, report: Report)
-        ensures lanes { Stays (lanes_of S.told self.old) (lanes_of S.told self.new) }
+        ensures lanes { Stays (lanes_of C.steps S.told self.old) (lanes_of C.steps S.told self.new) }
         ensures awake { IsTrue (is_awake report.key self.new) }
         ensures woken { Wakes report.key self.old self.new }
     {
@@ -228,7 +228,7 @@ impl<S: Peer, C: LoopCore, T: Time + Drop> Open<S, C, T> {
 
     // Notes a report.
     fn hear(&mut self, report: Report)
-        ensures lanes { Stays (lanes_of S.told self.old) (lanes_of S.told self.new) }
+        ensures lanes { Stays (lanes_of C.steps S.told self.old) (lanes_of C.steps S.told self.new) }
         ensures woken { WakesOthers report.key self.old self.new }
     {
         if let Some(connection) = self.connections.get_mut(report.key) {
@@ -238,7 +238,7 @@ impl<S: Peer, C: LoopCore, T: Time + Drop> Open<S, C, T> {
 
     /// Begins a round, and hands out those that get a turn in it, in order. The list comes back by [`Open::give_back`].
     pub fn take_due(&mut self) -> Result<Vec<Due>, AllocError>
-        ensures lanes { Stays (lanes_of S.told self.old) (lanes_of S.told self.new) }
+        ensures lanes { Stays (lanes_of C.steps S.told self.old) (lanes_of C.steps S.told self.new) }
         ensures connections { self.new.connections ≡ self.old.connections }
         ensures all { IfOk result (λ list. list.items ≡ self.old.due.first.items ++ self.old.due.rest.items) }
         ensures fresh { OnOk result (IsFresh self.new.due) }
@@ -249,7 +249,7 @@ impl<S: Peer, C: LoopCore, T: Time + Drop> Open<S, C, T> {
 
     /// Where memory for the list of turns was refused, looks at each connection: one that can go on gets a turn.
     pub fn recall(&mut self)
-        ensures lanes { Stays (lanes_of S.told self.old) (lanes_of S.told self.new) }
+        ensures lanes { Stays (lanes_of C.steps S.told self.old) (lanes_of C.steps S.told self.new) }
         ensures stand { TurnsStay self.old self.new }
         ensures woken { Recalls self.old self.new }
     {
@@ -305,7 +305,7 @@ impl<S: Peer, C: LoopCore, T: Time + Drop> Open<S, C, T> {
 
     /// Has a turn come in the next round, before the turns of those that had one in this round.
     pub fn put_off(&mut self, due: Due) -> Result<(), AllocError>
-        ensures lanes { Stays (lanes_of S.told self.old) (lanes_of S.told self.new) }
+        ensures lanes { Stays (lanes_of C.steps S.told self.old) (lanes_of C.steps S.told self.new) }
         ensures ready { StatesStay self.old self.new }
         ensures kept { OnOk result (IsPutOff due self.old self.new) }
         ensures woken { OnOk result (Passes due self.old self.new) }
@@ -315,7 +315,7 @@ impl<S: Peer, C: LoopCore, T: Time + Drop> Open<S, C, T> {
 
     /// The list of a round.
     pub fn give_back(&mut self, list: Vec<Due>)
-        ensures lanes { Stays (lanes_of S.told self.old) (lanes_of S.told self.new) }
+        ensures lanes { Stays (lanes_of C.steps S.told self.old) (lanes_of C.steps S.told self.new) }
         ensures ready { StatesStay self.old self.new }
         ensures first { self.new.due.first.items ≡ self.old.due.first.items }
         ensures woken { StaysWoken self.old self.new }
@@ -335,12 +335,12 @@ impl<S: Peer, C: LoopCore, T: Time + Drop> Open<S, C, T> {
 
     /// One turn for a connection, and whether bytes moved. Where the peer is gone, nothing is done any more.
     pub fn turn(&mut self, key: usize, now: u64) -> (Outcome, bool)
-        ensures lanes { TurnsAtMost C.steps key (lanes_of S.told self.old) (lanes_of S.told self.new) }
+        ensures lanes { TurnsAtMost C.steps key (lanes_of C.steps S.told self.old) (lanes_of C.steps S.told self.new) }
         ensures others { OthersStand key self.old self.new }
         ensures bytes { IsFalse result.1 → bytes_of self.new ≡ bytes_of self.old }
         ensures lost { IsTrue (lost_at key self.old) → result.0 ≡ Outcome.Over End.ReadFault }
-        ensures idle { IsTrue (lost_at key self.old) → Stays (lanes_of S.told self.old) (lanes_of S.told self.new) }
-        ensures given { IfSome (get self.old.connections key) (λ c. key < 2 ^ 32 → IsFalse (is_lost c) → GetsTurn C.steps S.told C.may_wait key c result.0 self.old self.new) }
+        ensures idle { IsTrue (lost_at key self.old) → PassedBy key (lanes_of C.steps S.told self.old) (lanes_of C.steps S.told self.new) }
+        ensures given { IfSome (get self.old.connections key) (λ c. key < 2 ^ 32 → IsFalse (is_lost c) → GetsTurn C.steps S.told C.waits key c result.0 self.old self.new) }
         ensures there { is_open_at key self.new ≡ is_open_at key self.old }
         ensures woken { TakesOff key self.old self.new }
     {
@@ -356,7 +356,7 @@ impl<S: Peer, C: LoopCore, T: Time + Drop> Open<S, C, T> {
 
     // A connection is due no more.
     fn take_off(&mut self, key: usize)
-        ensures lanes { Stays (lanes_of S.told self.old) (lanes_of S.told self.new) }
+        ensures lanes { PassedBy key (lanes_of C.steps S.told self.old) (lanes_of C.steps S.told self.new) }
         ensures ready { StatesStay self.old self.new }
         ensures there { is_open_at key self.new ≡ is_open_at key self.old }
         ensures woken { TakesOff key self.old self.new }
@@ -368,9 +368,9 @@ impl<S: Peer, C: LoopCore, T: Time + Drop> Open<S, C, T> {
 
     // What the turn of a connection does, which is due no more; an error is what comes of one that does nothing.
     fn prepare(&mut self, key: usize, now: u64) -> Result<TurnPlan, Outcome>
-        ensures lanes { Stays (lanes_of S.told self.old) (lanes_of S.told self.new) }
+        ensures lanes { PassedBy key (lanes_of C.steps S.told self.old) (lanes_of C.steps S.told self.new) }
         ensures ready { StatesStay self.old self.new }
-        ensures plan { IfSome (get self.old.connections key) (λ c. key < 2 ^ 32 → Prepares C.may_wait key (plan_at c self.old) result self.old self.new) }
+        ensures plan { IfSome (get self.old.connections key) (λ c. key < 2 ^ 32 → Prepares C.waits key (plan_at c self.old) result self.old self.new) }
         ensures covered { IfOk result (λ plan. plan ≡ TurnPlan.Answer → AreCovered C.steps key self.old self.new) }
         ensures woken { TakesOff key self.old self.new }
     {
@@ -389,9 +389,9 @@ impl<S: Peer, C: LoopCore, T: Time + Drop> Open<S, C, T> {
 
     // The turn of a connection that answers one request, if there is memory for the reply.
     fn prepare_answer(&mut self, key: usize, now: u64) -> Result<TurnPlan, Outcome>
-        ensures lanes { Stays (lanes_of S.told self.old) (lanes_of S.told self.new) }
+        ensures lanes { Stays (lanes_of C.steps S.told self.old) (lanes_of C.steps S.told self.new) }
         ensures ready { StatesStay self.old self.new }
-        ensures plan { IfSome (get self.old.connections key) (λ _. key < 2 ^ 32 → Prepares C.may_wait key TurnPlan.Answer result self.old self.new) }
+        ensures plan { IfSome (get self.old.connections key) (λ _. key < 2 ^ 32 → Prepares C.waits key TurnPlan.Answer result self.old self.new) }
         ensures covered { IfOk result (λ _. AreCovered C.steps key self.old self.new) }
         ensures woken { WakesOthers key self.old self.new }
     {
@@ -404,9 +404,10 @@ impl<S: Peer, C: LoopCore, T: Time + Drop> Open<S, C, T> {
 
     // What a connection's turn would do, which begins. It is due no more.
     fn plan(&mut self, key: usize) -> Option<TurnPlan>
-        ensures lanes { Stays (lanes_of S.told self.old) (lanes_of S.told self.new) }
+        ensures lanes { PassedBy key (lanes_of C.steps S.told self.old) (lanes_of C.steps S.told self.new) }
         ensures ready { StatesStay self.old self.new }
         ensures plan { result ≡ option_map (λ c. plan_at c self.old) (get self.old.connections key) }
+        ensures core { self.new.core ≡ self.old.core }
         ensures begun { IfSome (get self.old.connections key) (λ c. self.new.due.longs ≡ begun (party_of c.tenant) (is_long C.longs key self.old) self.old.due.longs) }
         ensures woken { TakesOff key self.old self.new }
     {
@@ -424,7 +425,7 @@ impl<S: Peer, C: LoopCore, T: Time + Drop> Open<S, C, T> {
 
     // Whether a turn would answer a request that waits for a query of its tenant, which another connection has under way.
     fn stands_by(&self, key: usize, plan: TurnPlan) -> bool
-        ensures { IsTrue result → IsTrue (is_answering plan && C.may_wait key self.now.core) }
+        ensures { IsTrue result → IsTrue (is_answering plan && C.waits key self.now.core) }
     {
         match conn_of(key) {
             Some(conn) => {
@@ -437,7 +438,7 @@ impl<S: Peer, C: LoopCore, T: Time + Drop> Open<S, C, T> {
 
     // One turn by a plan.
     fn work(&mut self, key: usize, plan: TurnPlan) -> (Outcome, bool)
-        ensures lanes { TurnsAtMost C.steps key (lanes_of S.told self.old) (lanes_of S.told self.new) }
+        ensures lanes { TurnsAtMost C.steps key (lanes_of C.steps S.told self.old) (lanes_of C.steps S.told self.new) }
         ensures others { OthersStand key self.old self.new }
         ensures bytes { IsFalse result.1 → bytes_of self.new ≡ bytes_of self.old }
         ensures given { IfSome (get self.old.connections key) (λ c. key < 2 ^ 32 → HasTurnBy C.steps S.told plan key c result.0 self.old self.new) }
@@ -473,7 +474,7 @@ impl<S: Peer, C: LoopCore, T: Time + Drop> Open<S, C, T> {
 
     /// Notes the second in which bytes moved.
     pub fn mark_moved(&mut self, key: usize, now: u64)
-        ensures lanes { Stays (lanes_of S.told self.old) (lanes_of S.told self.new) }
+        ensures lanes { Stays (lanes_of C.steps S.told self.old) (lanes_of C.steps S.told self.new) }
         ensures ready { StatesStay self.old self.new }
         ensures marked { IsMarked self.new key now }
         ensures there { is_open_at key self.new ≡ is_open_at key self.old }
@@ -488,7 +489,7 @@ impl<S: Peer, C: LoopCore, T: Time + Drop> Open<S, C, T> {
     /// After a turn: what is done with is given back, and what the next step needs is asked for. If the connection can go on, it gets a further
     /// turn; if not, it has no query under way.
     pub fn settle(&mut self, key: usize, now: u64) -> Result<(), AllocError>
-        ensures lanes { Stays (lanes_of S.told self.old) (lanes_of S.told self.new) }
+        ensures lanes { Stays (lanes_of C.steps S.told self.old) (lanes_of C.steps S.told self.new) }
         ensures ready { StatesStay self.old self.new }
         ensures standing { OnOk result (IsStanding key self.new) }
         ensures awake { OnOk result (IsTrue (is_awake key self.new)) }
@@ -502,7 +503,7 @@ impl<S: Peer, C: LoopCore, T: Time + Drop> Open<S, C, T> {
 
     // What is done with is given back, and what the next step needs is asked for.
     fn settle_memory(&mut self, key: usize, now: u64) -> Result<(), AllocError>
-        ensures lanes { Stays (lanes_of S.told self.old) (lanes_of S.told self.new) }
+        ensures lanes { Stays (lanes_of C.steps S.told self.old) (lanes_of C.steps S.told self.new) }
         ensures ready { StatesStay self.old self.new }
         ensures woken { WakesOthers key self.old self.new }
     {
@@ -530,7 +531,7 @@ impl<S: Peer, C: LoopCore, T: Time + Drop> Open<S, C, T> {
 
     // Notes whether a frame came in part, or is not answered.
     fn note_part(&mut self, key: usize, front: Option<Ahead>)
-        ensures lanes { Stays (lanes_of S.told self.old) (lanes_of S.told self.new) }
+        ensures lanes { Stays (lanes_of C.steps S.told self.old) (lanes_of C.steps S.told self.new) }
         ensures ready { StatesStay self.old self.new }
         ensures woken { WakesOthers key self.old self.new }
     {
@@ -541,7 +542,7 @@ impl<S: Peer, C: LoopCore, T: Time + Drop> Open<S, C, T> {
 
     // Counts the time that a turn took. One in which a query went on takes a span, and one that stood by does not: its tenant's query is to have its turn.
     fn count_turn(&mut self, key: usize, now: u64)
-        ensures lanes { Stays (lanes_of S.told self.old) (lanes_of S.told self.new) }
+        ensures lanes { Stays (lanes_of C.steps S.told self.old) (lanes_of C.steps S.told self.new) }
         ensures ready { StatesStay self.old self.new }
         ensures times { IfSome (get self.new.connections key) (λ c. (micros : ℕ) × ((has_worked : Bool) × (self.new.due.micros ≡ after_turn self.old.due.micros (party_of (tenant_at key self.old)) (party_of c.tenant) micros (c.is_working && has_worked)))) }
         ensures woken { WakesOthers key self.old self.new }
@@ -567,7 +568,7 @@ impl<S: Peer, C: LoopCore, T: Time + Drop> Open<S, C, T> {
 
     // Notes what the core tells of a turn.
     fn note_turn(&mut self, key: usize)
-        ensures lanes { Stays (lanes_of S.told self.old) (lanes_of S.told self.new) }
+        ensures lanes { Stays (lanes_of C.steps S.told self.old) (lanes_of C.steps S.told self.new) }
         ensures ready { StatesStay self.old self.new }
         ensures due { self.new.due ≡ self.old.due }
         ensures woken { WakesOthers key self.old self.new }
@@ -585,7 +586,7 @@ impl<S: Peer, C: LoopCore, T: Time + Drop> Open<S, C, T> {
 
     // While a query goes on, the time for which its connection may hold a share begins anew.
     fn renew(&mut self, key: usize, now: u64)
-        ensures lanes { Stays (lanes_of S.told self.old) (lanes_of S.told self.new) }
+        ensures lanes { Stays (lanes_of C.steps S.told self.old) (lanes_of C.steps S.told self.new) }
         ensures ready { StatesStay self.old self.new }
         ensures due { self.new.due ≡ self.old.due }
         ensures woken { WakesOthers key self.old self.new }
@@ -603,7 +604,7 @@ impl<S: Peer, C: LoopCore, T: Time + Drop> Open<S, C, T> {
     // A connection that can go on gets a further turn. One that can't has no query under way: so nobody waits for one that waits. Where there is no memory
     // for the turn, the connection is looked at again before the next round.
     pub(crate) fn give_turn(&mut self, key: usize)
-        ensures lanes { Stays (lanes_of S.told self.old) (lanes_of S.told self.new) }
+        ensures lanes { Stays (lanes_of C.steps S.told self.old) (lanes_of C.steps S.told self.new) }
         ensures budgets { self.new.budgets ≡ self.old.budgets }
         ensures standing { IsStanding key self.new }
         ensures listed { IsListed key self.old self.new }
@@ -637,7 +638,7 @@ impl<S: Peer, C: LoopCore, T: Time + Drop> Open<S, C, T> {
 
     // A connection that gets no turn has no query under way.
     fn give_up_query(&mut self, key: usize)
-        ensures lanes { Stays (lanes_of S.told self.old) (lanes_of S.told self.new) }
+        ensures lanes { IsFalse (is_due_in self.old.connections key) → Stays (lanes_of C.steps S.told self.old) (lanes_of C.steps S.told self.new) }
         ensures budgets { self.new.budgets ≡ self.old.budgets }
         ensures due { IsAsDue key self.old self.new }
         ensures given_up { IfSome (get self.new.connections key) (λ c. IsFalse c.is_working) }
@@ -674,7 +675,7 @@ impl<S: Peer, C: LoopCore, T: Time + Drop> Open<S, C, T> {
 
     /// A connection is read no more, as if its peer had ended its side: what was read whole is answered, and what is owed is written.
     pub fn leave(&mut self, key: usize)
-        ensures lanes { Stays (lanes_of S.told self.old) (lanes_of S.told self.new) }
+        ensures lanes { Stays (lanes_of C.steps S.told self.old) (lanes_of C.steps S.told self.new) }
         ensures left { HasLeft key self.new }
         ensures woken { Wakes key self.old self.new }
     {
@@ -686,10 +687,10 @@ impl<S: Peer, C: LoopCore, T: Time + Drop> Open<S, C, T> {
 
     /// Ends a connection's session, and reads what still comes for a little while.
     pub fn linger(&mut self, key: usize, now: u64)
-        ensures lanes { DoesAtMost C.steps (LetGo key) (lanes_of S.told self.old) (lanes_of S.told self.new) }
+        ensures lanes { DoesAtMost C.steps (LetGo key) (lanes_of C.steps S.told self.old) (lanes_of C.steps S.told self.new) }
         ensures others { OthersStand key self.old self.new }
         ensures share { key < 2 ^ 32 → IsGivenBack (claim_at self.old.connections key) self.new.budgets }
-        ensures closes { IsTrue (is_open_at key self.old) → key < 2 ^ 32 → Does C.steps (LetGo key) (lanes_of S.told self.old) (lanes_of S.told self.new) }
+        ensures closes { IsTrue (is_open_at key self.old) → key < 2 ^ 32 → Does C.steps (LetGo key) (lanes_of C.steps S.told self.old) (lanes_of C.steps S.told self.new) }
         ensures awake { IsTrue (is_awake key self.new) }
         ensures woken { Wakes key self.old self.new }
     {
@@ -700,10 +701,10 @@ impl<S: Peer, C: LoopCore, T: Time + Drop> Open<S, C, T> {
 
     // Ends a connection's session, and gives its share back.
     fn end(&mut self, key: usize, now: u64)
-        ensures lanes { DoesAtMost C.steps (LetGo key) (lanes_of S.told self.old) (lanes_of S.told self.new) }
+        ensures lanes { DoesAtMost C.steps (LetGo key) (lanes_of C.steps S.told self.old) (lanes_of C.steps S.told self.new) }
         ensures others { OthersStand key self.old self.new }
         ensures share { key < 2 ^ 32 → IsGivenBack (claim_at self.old.connections key) self.new.budgets }
-        ensures closes { IsTrue (is_open_at key self.old) → key < 2 ^ 32 → Does C.steps (LetGo key) (lanes_of S.told self.old) (lanes_of S.told self.new) }
+        ensures closes { IsTrue (is_open_at key self.old) → key < 2 ^ 32 → Does C.steps (LetGo key) (lanes_of C.steps S.told self.old) (lanes_of C.steps S.told self.new) }
         ensures woken { WakesOthers key self.old self.new }
     {
         let Some(conn) = conn_of(key) else {
@@ -719,10 +720,10 @@ impl<S: Peer, C: LoopCore, T: Time + Drop> Open<S, C, T> {
 
     /// Closes a connection.
     pub fn close(&mut self, key: usize, now: u64)
-        ensures lanes { DoesAtMost C.steps (LetGo key) (lanes_of S.told self.old) (lanes_of S.told self.new) }
+        ensures lanes { DoesAtMost C.steps (LetGo key) (lanes_of C.steps S.told self.old) (lanes_of C.steps S.told self.new) }
         ensures others { OthersStand key self.old self.new }
         ensures share { key < 2 ^ 32 → IsGivenBack (claim_at self.old.connections key) self.new.budgets }
-        ensures closes { IsTrue (is_open_at key self.old) → key < 2 ^ 32 → Does C.steps (LetGo key) (lanes_of S.told self.old) (lanes_of S.told self.new) }
+        ensures closes { IsTrue (is_open_at key self.old) → key < 2 ^ 32 → Does C.steps (LetGo key) (lanes_of C.steps S.told self.old) (lanes_of C.steps S.told self.new) }
         ensures woken { Wakes key self.old self.new }
     {
         self.let_go(key);
@@ -731,10 +732,10 @@ impl<S: Peer, C: LoopCore, T: Time + Drop> Open<S, C, T> {
 
     // Takes a connection off, and gives its share back.
     fn let_go(&mut self, key: usize)
-        ensures lanes { DoesAtMost C.steps (LetGo key) (lanes_of S.told self.old) (lanes_of S.told self.new) }
+        ensures lanes { DoesAtMost C.steps (LetGo key) (lanes_of C.steps S.told self.old) (lanes_of C.steps S.told self.new) }
         ensures others { OthersStand key self.old self.new }
         ensures share { key < 2 ^ 32 → IsGivenBack (claim_at self.old.connections key) self.new.budgets }
-        ensures closes { IsTrue (is_open_at key self.old) → key < 2 ^ 32 → Does C.steps (LetGo key) (lanes_of S.told self.old) (lanes_of S.told self.new) }
+        ensures closes { IsTrue (is_open_at key self.old) → key < 2 ^ 32 → Does C.steps (LetGo key) (lanes_of C.steps S.told self.old) (lanes_of C.steps S.told self.new) }
         ensures woken { Wakes key self.old self.new }
     {
         let Some(conn) = conn_of(key) else {

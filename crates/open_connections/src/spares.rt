@@ -10,7 +10,7 @@ use socket_poll::{Peer, Time};
 impl<S: Peer, C: LoopCore, T: Time + Drop> Open<S, C, T> {
     /// The connection that has been idle longest, for so many seconds at least. They are looked for once a second.
     pub fn spare(&mut self, now: u64, limits: &Limits) -> Option<usize>
-        ensures lanes { Stays (lanes_of S.told self.old) (lanes_of S.told self.new) }
+        ensures lanes { Stays (lanes_of C.steps S.told self.old) (lanes_of C.steps S.told self.new) }
         ensures woken { StaysWoken self.old self.new }
     {
         match self.next_spare(now, limits) {
@@ -28,7 +28,7 @@ impl<S: Peer, C: LoopCore, T: Time + Drop> Open<S, C, T> {
 
     // The next of those that were found and are still idle.
     fn next_spare(&mut self, now: u64, limits: &Limits) -> Option<usize>
-        ensures lanes { Stays (lanes_of S.told self.old) (lanes_of S.told self.new) }
+        ensures lanes { Stays (lanes_of C.steps S.told self.old) (lanes_of C.steps S.told self.new) }
         ensures woken { StaysWoken self.old self.new }
     {
         'found: for _ in 0..self.idle.len() {
@@ -44,7 +44,7 @@ impl<S: Peer, C: LoopCore, T: Time + Drop> Open<S, C, T> {
 
     // Finds those that are idle. Where there is no memory for the list, there is none.
     fn look_for_spare(&mut self, now: u64, limits: &Limits)
-        ensures lanes { Stays (lanes_of S.told self.old) (lanes_of S.told self.new) }
+        ensures lanes { Stays (lanes_of C.steps S.told self.old) (lanes_of C.steps S.told self.new) }
         ensures woken { StaysWoken self.old self.new }
     {
         self.idle.clear();

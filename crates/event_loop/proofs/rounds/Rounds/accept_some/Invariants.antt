@@ -6,4 +6,4 @@ use Rattle.event_loop.proofs.rounds.Rounds.accept_some.Given as goal
 
 -- what was done so far, that nobody is forgotten, and that one was asked for unless nothing was done
 abbrev pub invariant-accepts : goal.invariant-accepts
-invariant-accepts g l = record { lanes : DoesSome g.C.LoopCore.steps (lanes_of g.S.Stream.Wire.told l.initial.self.opened) (lanes_of g.S.Stream.Wire.told l.self.opened); woken : StaysWoken l.initial.self.opened l.self.opened; first : l._accepted ≡ 0 → l.self ≡ l.initial.self; tried : 0 < l._accepted → IfSome (g.S.System.tried l.self.system) IsTrue }
+invariant-accepts g l = record { lanes : DoesSome g.C.LoopCore.steps (lanes_of g.C.LoopCore.steps g.S.Stream.Wire.told l.initial.self.opened) (lanes_of g.C.LoopCore.steps g.S.Stream.Wire.told l.self.opened); woken : StaysWoken l.initial.self.opened l.self.opened; first : l._accepted ≡ 0 → l.self ≡ l.initial.self; tried : 0 < l._accepted → IfSome (g.S.System.tried l.self.system) IsTrue }

@@ -5,4 +5,4 @@ use Rattle.event_loop.proofs.rounds.Rounds.catch_up.Given as goal
 
 -- what was done so far, and that nobody is forgotten
 abbrev pub invariant-waits : goal.invariant-waits
-invariant-waits g l = record { lanes : Stays (lanes_of g.S.Stream.Wire.told l.initial.self.opened) (lanes_of g.S.Stream.Wire.told l.self.opened); woken : StaysWoken l.initial.self.opened l.self.opened }
+invariant-waits g l = record { lanes : Stays (lanes_of g.C.LoopCore.steps g.S.Stream.Wire.told l.initial.self.opened) (lanes_of g.C.LoopCore.steps g.S.Stream.Wire.told l.self.opened); woken : StaysWoken l.initial.self.opened l.self.opened }

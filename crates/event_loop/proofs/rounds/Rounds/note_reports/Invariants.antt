@@ -5,4 +5,4 @@ use Rattle.event_loop.proofs.rounds.Rounds.note_reports.Given as goal
 
 -- what was done so far, and that nobody is forgotten
 abbrev pub invariant-reports : goal.invariant-reports
-invariant-reports g l = record { lanes : Stays (lanes_of g.S.Stream.Wire.told l.initial.self.opened) (lanes_of g.S.Stream.Wire.told l.self.opened); woken : StaysWoken l.initial.self.opened l.self.opened }
+invariant-reports g l = record { lanes : Stays (lanes_of g.C.LoopCore.steps g.S.Stream.Wire.told l.initial.self.opened) (lanes_of g.C.LoopCore.steps g.S.Stream.Wire.told l.self.opened); woken : StaysWoken l.initial.self.opened l.self.opened }

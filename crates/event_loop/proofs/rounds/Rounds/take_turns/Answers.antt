@@ -13,7 +13,7 @@ turns-init g c = record { lanes = no_step_on g.C.LoopCore.steps _ _ (stays _); l
 pub turns-preserved : goal.turns-preserved
 turns-preserved g c = record {
   lanes = on_then c.steps_join.ensures _ _ _ c.turns.invariant.lanes c.serve.ensures.lanes;
-  leads = leads_on g.C.LoopCore.steps g.S.Stream.Wire.told g.C.LoopCore.may_wait g.C.LoopCore.longs _ _ _ _ _ _ c.turns-test.true c.turns.invariant.leads c.in_ok-serve.ensures.serves (λ key number h. c.in_ok-serve.ensures.woken (Stands key number []) h);
+  leads = leads_on g.C.LoopCore.steps g.S.Stream.Wire.told g.C.LoopCore.waits g.C.LoopCore.longs _ _ _ _ _ _ c.turns-test.true c.turns.invariant.leads c.in_ok-serve.ensures.serves (λ key number h. c.in_ok-serve.ensures.woken (Stands key number []) h);
   woken = λ h. woken_on _ c.turns.due-index _ c.turns.self.opened c.serve.new.self.opened c.turns-test.true (c.turns.invariant.woken h) c.in_ok-serve.ensures.woken;
 }
 
@@ -35,7 +35,7 @@ returns-clause-each g c = record {
   begins = c.in_ok-list.ensures.lanes;
   same = c.in_ok-list.ensures.connections;
   fresh = c.in_ok-list.ensures.fresh;
-  serves = rw (sym (c.deref-due-items.ensures.value ∙ c.in_ok-list.ensures.all)) (leads_through g.C.LoopCore.steps g.S.Stream.Wire.told g.C.LoopCore.may_wait g.C.LoopCore.longs _ c.turns.due-index _ _ _ c.turns-test.false c.turns.invariant.leads (c.give_back.ensures.lanes, c.give_back.ensures.ready, (λ key number h. c.give_back.ensures.woken (Stands key number []) h), c.give_back.ensures.first));
+  serves = rw (sym (c.deref-due-items.ensures.value ∙ c.in_ok-list.ensures.all)) (leads_through g.C.LoopCore.steps g.S.Stream.Wire.told g.C.LoopCore.waits g.C.LoopCore.longs _ c.turns.due-index _ _ _ c.turns-test.false c.turns.invariant.leads (c.give_back.ensures.lanes, c.give_back.ensures.ready, (λ key number h. c.give_back.ensures.woken (Stands key number []) h), c.give_back.ensures.first));
 }
 
 pub returns-clause-woken : goal.returns-clause-woken

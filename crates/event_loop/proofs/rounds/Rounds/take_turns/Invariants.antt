@@ -8,7 +8,7 @@ use Rattle.event_loop.proofs.rounds.Rounds.take_turns.Given as goal
 -- what was done so far, that the rest of the list is to be served, and that nobody is forgotten
 abbrev pub invariant-turns : goal.invariant-turns
 invariant-turns g l = record {
-  lanes : DoesOn g.C.LoopCore.steps (lanes_of g.S.Stream.Wire.told l.initial.self.opened) (lanes_of g.S.Stream.Wire.told l.self.opened);
-  leads : Leads g.C.LoopCore.steps g.S.Stream.Wire.told g.C.LoopCore.may_wait g.C.LoopCore.longs l.due-items (drop l.due-index l.due-items) l.initial.self.opened l.self.opened;
+  lanes : DoesOn g.C.LoopCore.steps (lanes_of g.C.LoopCore.steps g.S.Stream.Wire.told l.initial.self.opened) (lanes_of g.C.LoopCore.steps g.S.Stream.Wire.told l.self.opened);
+  leads : Leads g.C.LoopCore.steps g.S.Stream.Wire.told g.C.LoopCore.waits g.C.LoopCore.longs l.due-items (drop l.due-index l.due-items) l.initial.self.opened l.self.opened;
   woken : IsWoken l.due-items l.initial.self.opened → IsWoken (drop l.due-index l.due-items) l.self.opened;
 }

@@ -5,4 +5,4 @@ use Rattle.event_loop.proofs.rounds.Rounds.tick.Given as goal
 
 -- what was done so far, and that nobody is forgotten
 abbrev pub invariant-keys : goal.invariant-keys
-invariant-keys g l = record { lanes : DoesOn g.C.LoopCore.steps (lanes_of g.S.Stream.Wire.told l.initial.self.opened) (lanes_of g.S.Stream.Wire.told l.self.opened); woken : StaysWoken l.initial.self.opened l.self.opened }
+invariant-keys g l = record { lanes : DoesOn g.C.LoopCore.steps (lanes_of g.C.LoopCore.steps g.S.Stream.Wire.told l.initial.self.opened) (lanes_of g.C.LoopCore.steps g.S.Stream.Wire.told l.self.opened); woken : StaysWoken l.initial.self.opened l.self.opened }

@@ -11,4 +11,4 @@ returns-clause-woken g c = shown c.in_ok-rounds.rounds.opened c.in_ok-rounds.ens
 
 pub returns-clause-joined : goal.returns-clause-joined
 returns-clause-joined g c =
-    (to_lists g.S.Stream.Wire.told c.in_ok-rounds.rounds.opened).joined c.in_ok-rounds.ensures.joined
+    (to_lists g.C.LoopCore.steps g.S.Stream.Wire.told c.in_ok-rounds.rounds.opened).joined c.in_ok-rounds.ensures.joined

@@ -8,8 +8,8 @@ pub returns-clause-steps : goal.returns-clause-steps
 returns-clause-steps g c =
     let was = c.self.inside.rounds.opened in
     let is = c.step.new.self.opened in
-    rw (← c.self.view_is) (some_then c.steps_join.ensures _ _ _ (no_step g.C.LoopCore.steps _ _ (from_lists _ was))
-    (some_then c.steps_join.ensures _ _ _ c.step.ensures.lanes (no_step g.C.LoopCore.steps _ _ (to_lists _ is))))
+    rw (← c.self.view_is) (some_then c.steps_join.ensures _ _ _ (no_step g.C.LoopCore.steps _ _ (from_lists g.C.LoopCore.steps g.S.Stream.Wire.told was))
+    (some_then c.steps_join.ensures _ _ _ c.step.ensures.lanes (no_step g.C.LoopCore.steps _ _ (to_lists g.C.LoopCore.steps g.S.Stream.Wire.told is))))
 
 pub returns-clause-deaf : goal.returns-clause-deaf
 returns-clause-deaf g c =

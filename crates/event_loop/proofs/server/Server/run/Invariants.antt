@@ -6,7 +6,7 @@ use Rattle.event_loop.proofs.server.Server.run.Given as goal
 -- what was done so far
 abbrev pub invariant-rounds : goal.invariant-rounds
 invariant-rounds g l = record {
-  steps : DoesSome g.C.LoopCore.steps (lanes_in l.initial.self) (lanes_in l.self);
-  rounds : GoesSoMany g.row.S-Stream.Denot g.row.T.Denot g.C.LoopCore.steps g.S.Stream.Wire.told g.C.LoopCore.may_wait g.C.LoopCore.longs l._gone l.initial.self l.self;
-  deaf : IsFalse l.initial.self.listens → StaysDeaf l.initial.self l.self;
+  steps : DoesSome g.C.LoopCore.steps (lanes_in g.C.LoopCore.steps l.initial.self) (lanes_in g.C.LoopCore.steps l.self);
+  rounds : GoesSoMany g.row.S-Stream.Denot g.row.T.Denot g.C.LoopCore.steps g.S.Stream.Wire.told g.C.LoopCore.waits g.C.LoopCore.longs l._gone l.initial.self l.self;
+  deaf : IsFalse l.initial.self.listens → StaysDeaf g.C.LoopCore.steps l.initial.self l.self;
 }

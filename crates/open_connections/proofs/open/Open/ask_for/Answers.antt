@@ -13,7 +13,7 @@ use Rattle.open_connections.proofs.open.Open.ask_for.Goals as goal
 pub returns-clause-lanes : goal.returns-clause-lanes
 returns-clause-lanes g c =
     let at = (sym c.in-Some.ensures.value) in
-    stays_then _ _ _ c.release.ensures.lanes (stays_with g.S.Wire.told _ _ _ _ c.release.new.self.connections c.args.key c.in-Some.connection.now (record c.in-Some.connection.now { claim = Some c.in_ok-claim.claim }) at refl refl c.ask.ensures.limits
+    stays_then _ _ _ c.release.ensures.lanes (stays_with g.C.LoopCore.steps g.S.Wire.told _ _ _ _ c.release.new.self.connections c.args.key c.in-Some.connection.now (record c.in-Some.connection.now { claim = Some c.in_ok-claim.claim }) at (λ e. e) refl refl c.ask.ensures.limits
     (asked_joined c.release.new.self.connections _ c.args.key _ (written c.release.new.self.connections c.args.key c.in-Some.connection.now (record c.in-Some.connection.now { claim = Some c.in_ok-claim.claim }) at) _ _ c.in_ok-claim.claim c.release.ensures.none refl c.in_ok-claim.ensures.comes))
 
 pub returns-clause-ready : goal.returns-clause-ready
@@ -29,7 +29,7 @@ returns-clause-claims g c =
 pub returns-in_err-claim-clause-lanes : goal.returns-in_err-claim-clause-lanes
 returns-in_err-claim-clause-lanes g c =
     let o = c.release.new.self in
-    stays_then _ _ _ c.release.ensures.lanes (rw c.in_err-claim.ensures.unchanged (stays_at g.S.Wire.told o.budgets (bytes_of o) o.core c.release.new.self.connections c.args.key c.in-Some.connection.now c.in-Some.connection.now (sym c.in-Some.ensures.value) refl refl refl))
+    stays_then _ _ _ c.release.ensures.lanes (rw c.in_err-claim.ensures.unchanged (stays_at g.C.LoopCore.steps g.S.Wire.told o.budgets (bytes_of o) o.core c.release.new.self.connections c.args.key c.in-Some.connection.now c.in-Some.connection.now (sym c.in-Some.ensures.value) (λ e. e) refl refl refl))
 
 pub returns-in_err-claim-clause-ready : goal.returns-in_err-claim-clause-ready
 returns-in_err-claim-clause-ready g c = keep_then _ _ _ _ c.release.ensures.ready (keep_at _ c.release.new.self.connections c.args.key c.in-Some.connection.now c.in-Some.connection.now (sym c.in-Some.ensures.value) refl)

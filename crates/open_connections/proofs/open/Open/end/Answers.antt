@@ -15,13 +15,13 @@ use Rattle.open_connections.proofs.open.Open.end.Goals as goal
 pub returns-clause-lanes : goal.returns-clause-lanes
 returns-clause-lanes g c =
     at_most_then g.C.LoopCore.steps (LetGo c.args.key) _ _ _ (inl (gone_steps g.C.LoopCore.steps g.S.Wire.told c.args.self.now.budgets (bytes_of c.args.self.now) _ _ c.args.self.now.connections _ c.args.key c.in-Some.conn _ c.in-Some.ensures.same (written c.args.self.now.connections c.args.key c.in-Some-get_mut.connection.now c.linger.new.self (sym c.in-Some-get_mut.ensures.value)) c.linger.ensures.line
-    (inr (c.linger.ensures.wire ∙ sym (wire_at g.S.Wire.told _ _ (sym c.in-Some-get_mut.ensures.value)))) c.disconnect.ensures
+    (inr (c.linger.ensures.wire ∙ sym (wire_at g.S.Wire.told _ _ (sym c.in-Some-get_mut.ensures.value)))) c.disconnect.ensures.closed c.disconnect.ensures.others
     (same_joined c.args.self.now.connections _ c.args.key _ (written c.args.self.now.connections c.args.key c.in-Some-get_mut.connection.now c.linger.new.self (sym c.in-Some-get_mut.ensures.value)) c.args.self.now.budgets (ap (λ (x : Option Claim). option_map part_of x) (c.linger.ensures.claim ∙ sym (claim_is c.args.self.now.connections c.args.key c.in-Some-get_mut.connection.now _ (sym c.in-Some-get_mut.ensures.value) refl)))))) c.release.ensures.lanes
 
 pub returns-clause-closes : goal.returns-clause-closes
 returns-clause-closes g c = λ o k.
     step_then g.C.LoopCore.steps (LetGo c.args.key) _ _ _ (gone_steps g.C.LoopCore.steps g.S.Wire.told c.args.self.now.budgets (bytes_of c.args.self.now) _ _ c.args.self.now.connections _ c.args.key c.in-Some.conn _ c.in-Some.ensures.same (written c.args.self.now.connections c.args.key c.in-Some-get_mut.connection.now c.linger.new.self (sym c.in-Some-get_mut.ensures.value)) c.linger.ensures.line
-    (inr (c.linger.ensures.wire ∙ sym (wire_at g.S.Wire.told _ _ (sym c.in-Some-get_mut.ensures.value)))) c.disconnect.ensures
+    (inr (c.linger.ensures.wire ∙ sym (wire_at g.S.Wire.told _ _ (sym c.in-Some-get_mut.ensures.value)))) c.disconnect.ensures.closed c.disconnect.ensures.others
     (same_joined c.args.self.now.connections _ c.args.key _ (written c.args.self.now.connections c.args.key c.in-Some-get_mut.connection.now c.linger.new.self (sym c.in-Some-get_mut.ensures.value)) c.args.self.now.budgets (ap (λ (x : Option Claim). option_map part_of x) (c.linger.ensures.claim ∙ sym (claim_is c.args.self.now.connections c.args.key c.in-Some-get_mut.connection.now _ (sym c.in-Some-get_mut.ensures.value) refl))))) c.release.ensures.lanes
 
 pub returns-clause-others : goal.returns-clause-others

@@ -5,7 +5,7 @@ use Rattle.slab.specs.Slab.{with_value}
 use Rattle.open_connections.specs.Woken.{is_so_in, sparing}
 use Rattle.open_connections.proofs.Keeping.{keep_at, keep_then}
 use Rattle.open_connections.proofs.Looping.{stays_then}
-use Rattle.open_connections.proofs.Steps.{stays_at}
+use Rattle.open_connections.proofs.Steps.{due_written, stays_at}
 use Rattle.open_connections.proofs.Woken.{list_grows, made_due, missed_woken, others_woken, rests_woken, stands_last, woken_at}
 use Rattle.open_connections.proofs.open.Open.give_turn.Goals as goal
 
@@ -26,10 +26,10 @@ returns-then-not-can_go_on-clause-woken g c = λ fact h.
     (c.give_up_query.ensures.woken fact (others_woken _ _ _ _ c.args.self.now.connections c.args.key c.in-Some.connection.now c.in-Some.connection.now (sym c.in-Some.ensures.value) (refl, refl) fact h))
 
 pub returns-in-Ok-clause-lanes : goal.returns-in-Ok-clause-lanes
-returns-in-Ok-clause-lanes g c = stays_at g.S.Wire.told _ _ _ c.args.self.now.connections c.args.key c.in-Some.connection.now (record c.in-Some.connection.now { is_due = true }) (sym c.in-Some.ensures.value) refl refl refl
+returns-in-Ok-clause-lanes g c = stays_at g.C.LoopCore.steps g.S.Wire.told _ _ _ c.args.self.now.connections c.args.key c.in-Some.connection.now (record c.in-Some.connection.now { is_due = true }) (sym c.in-Some.ensures.value) (λ e. refl) refl refl refl
 
 pub returns-then-not-can_go_on-clause-lanes : goal.returns-then-not-can_go_on-clause-lanes
-returns-then-not-can_go_on-clause-lanes g c = stays_then _ _ _ (stays_at g.S.Wire.told _ _ _ c.args.self.now.connections c.args.key c.in-Some.connection.now c.in-Some.connection.now (sym c.in-Some.ensures.value) refl refl refl) c.give_up_query.ensures.lanes
+returns-then-not-can_go_on-clause-lanes g c = stays_then _ _ _ (stays_at g.C.LoopCore.steps g.S.Wire.told _ _ _ c.args.self.now.connections c.args.key c.in-Some.connection.now c.in-Some.connection.now (sym c.in-Some.ensures.value) (λ e. e) refl refl refl) (c.give_up_query.ensures.lanes (due_written c.args.self.now.connections c.args.key c.in-Some.connection.now c.in-Some.connection.now (sym c.in-Some.ensures.value) ∙ search rules))
 
 pub returns-then-not-can_go_on-clause-ready : goal.returns-then-not-can_go_on-clause-ready
 returns-then-not-can_go_on-clause-ready g c = keep_then _ _ _ _ (keep_at _ c.args.self.now.connections c.args.key c.in-Some.connection.now c.in-Some.connection.now (sym c.in-Some.ensures.value) refl) c.give_up_query.ensures.ready
@@ -41,7 +41,7 @@ pub returns-then-not-can_go_on-clause-awake : goal.returns-then-not-can_go_on-cl
 returns-then-not-can_go_on-clause-awake g c = c.give_up_query.ensures.awake ∙ rests_woken 0 c.args.self.now.has_missed [] [] c.has_room-has_room.result c.args.self.now.connections c.args.key c.in-Some.connection.now (sym c.in-Some.ensures.value) (search rules)
 
 pub returns-in-Err-clause-lanes : goal.returns-in-Err-clause-lanes
-returns-in-Err-clause-lanes g c = stays_then _ _ _ (stays_at g.S.Wire.told _ _ _ c.args.self.now.connections c.args.key c.in-Some.connection.now c.in-Some.connection.now (sym c.in-Some.ensures.value) refl refl refl) c.give_up_query-in-Err.ensures.lanes
+returns-in-Err-clause-lanes g c = stays_then _ _ _ (stays_at g.C.LoopCore.steps g.S.Wire.told _ _ _ c.args.self.now.connections c.args.key c.in-Some.connection.now c.in-Some.connection.now (sym c.in-Some.ensures.value) (λ e. e) refl refl refl) (c.give_up_query-in-Err.ensures.lanes (due_written c.args.self.now.connections c.args.key c.in-Some.connection.now c.in-Some.connection.now (sym c.in-Some.ensures.value) ∙ search rules))
 
 pub returns-in-Err-clause-ready : goal.returns-in-Err-clause-ready
 returns-in-Err-clause-ready g c = keep_then _ _ _ _ (keep_at _ c.args.self.now.connections c.args.key c.in-Some.connection.now c.in-Some.connection.now (sym c.in-Some.ensures.value) refl) c.give_up_query-in-Err.ensures.ready

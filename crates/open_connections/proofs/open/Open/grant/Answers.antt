@@ -6,7 +6,7 @@ use Rattle.open_connections.proofs.Woken.{spared}
 use Rattle.open_connections.proofs.open.Open.grant.Goals as goal
 
 pub shares-init : goal.shares-init
-shares-init g c = record { lanes = stays_in _ _ _ _ _ _ _ refl (λ j. j); free = λ pool q t h. h; ready = keep_same _ _; claims = keep_same _ _; woken = λ fact h. h }
+shares-init g c = record { lanes = stays_in _ _ _ _ _ _ _ _ refl (λ j. j); free = λ pool q t h. h; ready = keep_same _ _; claims = keep_same _ _; woken = λ fact h. h }
 
 pub shares-preserved : goal.shares-preserved
 shares-preserved g c = record {

@@ -8,7 +8,7 @@ use Rattle.open_connections.proofs.open.Open.grant.Given as goal
 -- nothing that is served has changed so far, no ticket came, and nobody is forgotten
 abbrev pub invariant-shares : goal.invariant-shares
 invariant-shares g l = record {
-  lanes : Stays (lanes_of g.S.Wire.told l.initial.self) (lanes_of g.S.Wire.told l.self);
+  lanes : Stays (lanes_of g.C.LoopCore.steps g.S.Wire.told l.initial.self) (lanes_of g.C.LoopCore.steps g.S.Wire.told l.self);
   free : StayFree l.initial.self.budgets l.self.budgets;
   ready : StatesStay l.initial.self l.self;
   claims : ClaimsStay l.initial.self l.self;

@@ -1,4 +1,4 @@
-use Rattle.std.proofs.Common.{◌≡◌, ℕ, Option, ap, false, subst, sym}
+use Rattle.std.proofs.Common.{◌∙◌, ◌≡◌, ℕ, Option, ap, false, subst, sym}
 use Rattle.std.specs.Prelude.{IsTrue}
 use Rattle.std.specs.Option.{option_map}
 use Rattle.connection_turns.specs.declared.claim.Claim.{Claim}
@@ -18,4 +18,4 @@ returns-in-Some-clause-woken g c = λ fact h.
 
 pub returns-in-Some-clause-lanes : goal.returns-in-Some-clause-lanes
 returns-in-Some-clause-lanes g c =
-    stays_then _ _ _ c.note_report.ensures.lanes (stays_at g.S.Wire.told _ _ _ c.note_report.new.self.connections c.args.key c.in-Some.connection.now c.leave.new.self (sym c.in-Some.ensures.value) c.leave.ensures.line c.leave.ensures.wire (ap (λ (x : Option Claim). option_map part_of x) c.leave.ensures.claim))
+    stays_then _ _ _ c.note_report.ensures.lanes (stays_at g.C.LoopCore.steps g.S.Wire.told _ _ _ c.note_report.new.self.connections c.args.key c.in-Some.connection.now c.leave.new.self (sym c.in-Some.ensures.value) (λ e. c.leave.ensures.due.1 ∙ e) c.leave.ensures.line c.leave.ensures.wire (ap (λ (x : Option Claim). option_map part_of x) c.leave.ensures.claim))

@@ -12,12 +12,12 @@ use Rattle.open_connections.proofs.open.Open.let_go.Goals as goal
 
 pub returns-clause-lanes : goal.returns-clause-lanes
 returns-clause-lanes g c =
-    then_at_most g.C.LoopCore.steps (LetGo c.args.key) _ _ _ c.release.ensures.lanes (inl (gone_steps g.C.LoopCore.steps g.S.Wire.told c.release.new.self.budgets (bytes_of c.release.new.self) _ _ c.release.new.self.connections _ c.args.key c.in-Some.conn None c.in-Some.ensures.same c.in-Some-try_remove.ensures.updates refl (inl refl) c.disconnect.ensures
+    then_at_most g.C.LoopCore.steps (LetGo c.args.key) _ _ _ c.release.ensures.lanes (inl (gone_steps g.C.LoopCore.steps g.S.Wire.told c.release.new.self.budgets (bytes_of c.release.new.self) _ _ c.release.new.self.connections _ c.args.key c.in-Some.conn None c.in-Some.ensures.same c.in-Some-try_remove.ensures.updates refl (inl refl) c.disconnect.ensures.closed c.disconnect.ensures.others
     (same_joined c.release.new.self.connections _ c.args.key None c.in-Some-try_remove.ensures.updates c.release.new.self.budgets (sym (ap (λ (x : Option Claim). option_map part_of x) c.release.ensures.none)))))
 
 pub returns-clause-closes : goal.returns-clause-closes
 returns-clause-closes g c = λ o k.
-    before_step g.C.LoopCore.steps (LetGo c.args.key) _ _ _ c.release.ensures.lanes (gone_steps g.C.LoopCore.steps g.S.Wire.told c.release.new.self.budgets (bytes_of c.release.new.self) _ _ c.release.new.self.connections _ c.args.key c.in-Some.conn None c.in-Some.ensures.same c.in-Some-try_remove.ensures.updates refl (inl refl) c.disconnect.ensures
+    before_step g.C.LoopCore.steps (LetGo c.args.key) _ _ _ c.release.ensures.lanes (gone_steps g.C.LoopCore.steps g.S.Wire.told c.release.new.self.budgets (bytes_of c.release.new.self) _ _ c.release.new.self.connections _ c.args.key c.in-Some.conn None c.in-Some.ensures.same c.in-Some-try_remove.ensures.updates refl (inl refl) c.disconnect.ensures.closed c.disconnect.ensures.others
     (same_joined c.release.new.self.connections _ c.args.key None c.in-Some-try_remove.ensures.updates c.release.new.self.budgets (sym (ap (λ (x : Option Claim). option_map part_of x) c.release.ensures.none))))
 
 pub returns-in_default-clause-woken : goal.returns-in_default-clause-woken

@@ -11,4 +11,4 @@ pub returns-clause-ready : goal.returns-clause-ready
 returns-clause-ready g c = keep_at _ c.args.self.now.connections c.args.key c.in-Some.connection.now _ (sym c.in-Some.ensures.value) refl
 
 pub returns-clause-lanes : goal.returns-clause-lanes
-returns-clause-lanes g c = stays_at g.S.Wire.told _ _ _ c.args.self.now.connections c.args.key c.in-Some.connection.now (record c.in-Some.connection.now { moved = c.args.now }) (sym c.in-Some.ensures.value) refl refl refl
+returns-clause-lanes g c = stays_at g.C.LoopCore.steps g.S.Wire.told _ _ _ c.args.self.now.connections c.args.key c.in-Some.connection.now (record c.in-Some.connection.now { moved = c.args.now }) (sym c.in-Some.ensures.value) (λ e. e) refl refl refl

@@ -19,7 +19,7 @@ returns-clause-queued g c =
 
 pub returns-then-covers-clause-covered : goal.returns-then-covers-clause-covered
 returns-then-covers-clause-covered g c = λ f j reply core x.
-    let most : IsMost (g.C.LoopCore.steps.answers c.args.key) c.args.self.now.core c.front-front.result.most_reply = most_at g.C.LoopCore.steps.answers c.in-Some.conn c.args.key c.inner.result.now c.args.self.now.core c.front-front.result.most_reply c.in-Some.ensures.same c.inner.ensures c.front-front.ensures.most in
+    let most : IsMost (g.C.LoopCore.steps.answers c.args.key) (g.C.LoopCore.steps.seen c.args.self.now.core) c.front-front.result.most_reply = most_at g.C.LoopCore.steps.answers c.in-Some.conn c.args.key (g.C.LoopCore.steps.seen c.inner.result.now) (g.C.LoopCore.steps.seen c.args.self.now.core) c.front-front.result.most_reply c.in-Some.ensures.same (ap g.C.LoopCore.steps.seen c.inner.ensures) c.front-front.ensures.most in
     shorter_covered (claim_at c.args.self.now.connections c.args.key) (length reply) c.front-front.result.most_reply (most reply core x)
     (ap (λ (x : Option Claim). is_covered x c.front-front.result.most_reply) (claim_is c.args.self.now.connections c.args.key c.in-Some-get.connection.now _ (search rules) refl) ∙ sym c.covers.ensures ∙ c.if-covers.true)
 
@@ -31,6 +31,6 @@ returns-clause-covered g c =
     let behind : Bool → Type 0 = λ may. IsTrue may → AreCovered g.C.LoopCore.steps c.args.key c.args.self.now c.claim.new.self in
     let bytes : need.bytes ≡ c.front-front.result.most_reply = ap (λ (x : Need). x.bytes) e in
     ok_map before behind c.claim.result (λ held q f j reply core x.
-    let most : IsMost (g.C.LoopCore.steps.answers c.args.key) c.args.self.now.core c.front-front.result.most_reply = most_at g.C.LoopCore.steps.answers c.in-Some.conn c.args.key c.inner.result.now c.args.self.now.core c.front-front.result.most_reply c.in-Some.ensures.same c.inner.ensures c.front-front.ensures.most in
+    let most : IsMost (g.C.LoopCore.steps.answers c.args.key) (g.C.LoopCore.steps.seen c.args.self.now.core) c.front-front.result.most_reply = most_at g.C.LoopCore.steps.answers c.in-Some.conn c.args.key (g.C.LoopCore.steps.seen c.inner.result.now) (g.C.LoopCore.steps.seen c.args.self.now.core) c.front-front.result.most_reply c.in-Some.ensures.same (ap g.C.LoopCore.steps.seen c.inner.ensures) c.front-front.ensures.most in
     shorter_covered (claim_at c.claim.new.self.connections c.args.key) (length reply) need.bytes (subst (λ (n : ℕ). length reply ≤ n) (sym bytes) (most reply core x))
     (q f (c.yield_share.ensures.lanes.joined j) (for_reply need _ e (refl, refl, search rules)))) c.claim.ensures.covered

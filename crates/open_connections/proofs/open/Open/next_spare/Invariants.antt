@@ -5,4 +5,4 @@ use Rattle.open_connections.proofs.open.Open.next_spare.Given as goal
 
 -- nothing that is served has changed so far, and nobody is forgotten
 abbrev pub invariant-found : goal.invariant-found
-invariant-found g l = record { lanes : Stays (lanes_of g.S.Wire.told l.initial.self) (lanes_of g.S.Wire.told l.self); woken : StaysWoken l.initial.self l.self }
+invariant-found g l = record { lanes : Stays (lanes_of g.C.LoopCore.steps g.S.Wire.told l.initial.self) (lanes_of g.C.LoopCore.steps g.S.Wire.told l.self); woken : StaysWoken l.initial.self l.self }

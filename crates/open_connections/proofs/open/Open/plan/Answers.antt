@@ -1,7 +1,7 @@
 use Rattle.std.proofs.Common.{false, refl, sym}
 use Rattle.open_connections.proofs.Keeping.{keep_at}
 use Rattle.open_connections.specs.Opened.{bytes_of}
-use Rattle.open_connections.proofs.Steps.{stays_at}
+use Rattle.open_connections.proofs.Steps.{passed_at}
 use Rattle.open_connections.proofs.Woken.{taken_off}
 use Rattle.open_connections.proofs.open.Open.plan.Goals as goal
 
@@ -25,10 +25,10 @@ pub returns-in-Served-clause-lanes : goal.returns-in-Served-clause-lanes
 returns-in-Served-clause-lanes g c =
     let o = c.args.self.now in
     let connection = c.in_ok-connection.connection.now in
-    rw c.prepare.ensures (stays_at g.S.Wire.told o.budgets (bytes_of o) o.core o.connections c.args.key connection (record connection { is_due = false }) (sym c.in_ok-connection.ensures.value) refl refl refl)
+    rw c.prepare.ensures (passed_at g.C.LoopCore.steps g.S.Wire.told o.budgets (bytes_of o) o.core o.core o.connections c.args.key connection (record connection { is_due = false }) (sym c.in_ok-connection.ensures.value) refl refl refl refl (λ q e. refl))
 
 pub returns-in-Lingering-clause-lanes : goal.returns-in-Lingering-clause-lanes
 returns-in-Lingering-clause-lanes g c =
     let o = c.args.self.now in
     let connection = c.in_ok-connection.connection.now in
-    rw c.prepare.ensures (stays_at g.S.Wire.told o.budgets (bytes_of o) o.core o.connections c.args.key connection (record connection { is_due = false }) (sym c.in_ok-connection.ensures.value) refl refl refl)
+    rw c.prepare.ensures (passed_at g.C.LoopCore.steps g.S.Wire.told o.budgets (bytes_of o) o.core o.core o.connections c.args.key connection (record connection { is_due = false }) (sym c.in_ok-connection.ensures.value) refl refl refl refl (λ q e. refl))

@@ -8,7 +8,7 @@ use Rattle.open_connections.proofs.open.Open.recall.Given as goal
 -- those that were looked at so far are awake
 abbrev pub invariant-keys : goal.invariant-keys
 invariant-keys g l = record {
-  lanes : Stays (lanes_of g.S.Wire.told l.initial.self) (lanes_of g.S.Wire.told l.self);
+  lanes : Stays (lanes_of g.C.LoopCore.steps g.S.Wire.told l.initial.self) (lanes_of g.C.LoopCore.steps g.S.Wire.told l.self);
   bound : l.self.bound ≡ l.initial.self.bound;
   keeps : (fact : Fact) → IsTrue (is_so (sparing_all fact) l.initial.self) → IsTrue (is_so (sparing_all fact) l.self);
   awake : (q : ℕ) → q < l.key → IsTrue (is_so (Awake false q) l.self);

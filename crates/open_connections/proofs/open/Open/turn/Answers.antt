@@ -1,6 +1,6 @@
-use Rattle.std.proofs.Common.{inr, ◌∙◌}
+use Rattle.std.proofs.Common.{◌∙◌}
 use Rattle.slab.specs.Slab.{get}
-use Rattle.open_connections.proofs.Looping.{then_turn}
+use Rattle.open_connections.proofs.Looping.{then_turn, turn_without}
 use Rattle.open_connections.proofs.Turns.{done_at, left_at}
 use Rattle.open_connections.proofs.Keeping.{covered_then, open_alike, others_stand, others_then}
 use Rattle.open_connections.proofs.open.Open.turn.Goals as goal
@@ -10,14 +10,14 @@ returns-in-Ok-clause-lanes g c = then_turn g.C.LoopCore.steps c.args.key _ _ _ c
 
 pub returns-in-Ok-clause-given : goal.returns-in-Ok-clause-given
 returns-in-Ok-clause-given g c =
-    done_at g.C.LoopCore.steps g.S.Wire.told g.C.LoopCore.may_wait _ c.args.key _ c.args.self.now c.prepare.new.self c.work.new.self (get c.args.self.now.connections c.args.key) (get c.prepare.new.self.connections c.args.key) c.prepare.ensures.lanes (c.prepare.ensures.ready.at c.args.key) c.in-Ok.ensures.plan
+    done_at g.C.LoopCore.steps g.S.Wire.told g.C.LoopCore.waits _ c.args.key _ c.args.self.now c.prepare.new.self c.work.new.self (get c.args.self.now.connections c.args.key) (get c.prepare.new.self.connections c.args.key) c.prepare.ensures.lanes (c.prepare.ensures.ready.at c.args.key) c.in-Ok.ensures.plan
     (λ e. covered_then g.C.LoopCore.steps c.args.key c.args.self.now c.prepare.new.self c.work.new.self c.work.ensures.claim (c.in-Ok.ensures.covered e)) c.work.ensures.given
 
 pub returns-in-Err-clause-lanes : goal.returns-in-Err-clause-lanes
-returns-in-Err-clause-lanes g c = inr (inr c.prepare.ensures.lanes)
+returns-in-Err-clause-lanes g c = turn_without g.C.LoopCore.steps c.args.key _ _ c.prepare.ensures.lanes
 
 pub returns-in-Err-clause-given : goal.returns-in-Err-clause-given
-returns-in-Err-clause-given g c = left_at g.C.LoopCore.steps g.S.Wire.told g.C.LoopCore.may_wait c.args.key _ c.args.self.now c.prepare.new.self (get c.args.self.now.connections c.args.key) c.prepare.ensures.lanes c.prepare.ensures.ready c.in-Err.ensures.plan
+returns-in-Err-clause-given g c = left_at g.C.LoopCore.steps g.S.Wire.told g.C.LoopCore.waits c.args.key _ c.args.self.now c.prepare.new.self (get c.args.self.now.connections c.args.key) c.prepare.ensures.lanes c.prepare.ensures.ready c.in-Err.ensures.plan
 
 pub returns-in-Ok-clause-others : goal.returns-in-Ok-clause-others
 returns-in-Ok-clause-others g c = others_then c.args.key _ _ _ (others_stand c.args.key _ _ c.prepare.ensures.ready) c.work.ensures.others
@@ -33,3 +33,6 @@ returns-in-Ok-clause-there g c = c.work.ensures.there ∙ open_alike c.args.key 
 
 pub returns-in-Ok-clause-woken : goal.returns-in-Ok-clause-woken
 returns-in-Ok-clause-woken g c = λ fact h. c.work.ensures.woken fact (c.prepare.ensures.woken fact h)
+
+pub returns-then-is_lost-clause-lanes : goal.returns-then-is_lost-clause-lanes
+returns-then-is_lost-clause-lanes g c = turn_without g.C.LoopCore.steps c.args.key _ _ c.take_off.ensures.lanes
