@@ -88,6 +88,12 @@ struct Repeating {
 }
 
 impl Core for Repeating {
+    ghost use Rattle.std.specs.Prelude.{None};
+
+    ghost Seen = { Unit {0} };
+
+    ghost seen = { λ core. tt };
+
     ghost takes = { λ conn old piece new. Unit {0} };
 
     ghost answers = { λ conn old reply new. Unit {0} };
@@ -95,6 +101,8 @@ impl Core for Repeating {
     ghost idle = { λ conn now. Unit {0} };
 
     ghost over = { λ conn now. false };
+
+    ghost left = { λ conn now. None };
 
     fn take(&mut self, _conn: u32, piece: &[u8]) -> bool {
         if self.most == 0 {

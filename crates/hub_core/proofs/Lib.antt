@@ -1,4 +1,5 @@
 pub mod Serving
 pub mod Bounds
+pub mod Left
 pub mod Waiting
 pub mod Wires

@@ -1,16 +1,16 @@
 //! The hub as the core of turns.
-ghost use Rattle.std.specs.Prelude.{◌≡◌, ◌↔◌, ◌&&◌, ◌||◌, [], OnOk, OnErr, IsErrOf, IsFalse, IsSome, IsTrue, is_some};
+ghost use Rattle.std.specs.Prelude.{◌≡◌, ◌↔◌, [], OnOk, OnErr, IsErrOf, IsFalse, IsSome, IsTrue, None, is_some};
 ghost use Rattle.std.specs.Bool.{MatchBool};
 ghost use Rattle.std.specs.Option.{option_map};
-ghost use Rattle.outbox.specs.Appends.{Appends};
+ghost use Rattle.connection_turns.specs.Cores.{IsLess};
+ghost use Rattle.outbox.specs.Appends.{Appends, OthersKeep};
 ghost use Rattle.path_hub.specs.Sessions.{session};
-ghost use Rattle.path_hub.specs.UnderWay.{SpendsAt, is_first_held};
+ghost use Rattle.path_hub.specs.UnderWay.{Clears, SpendsAt, is_first_held};
 ghost use Rattle.hub_core.specs.Answering.{Opens, Closes, Answers, IsIdle, is_over, takes};
-ghost use Rattle.hub_core.specs.Asking.{asks, is_first_tenants};
+ghost use Rattle.hub_core.specs.Asking.{asks};
 ghost use Rattle.hub_core.specs.InFront.{IsAhead, waiting_on};
-ghost use Rattle.hub_core.specs.Long.{is_first_long};
 ghost use Rattle.hub_core.specs.Replies.{body_at};
-ghost use Rattle.hub_core.specs.Steps.{GivesUp, Works, is_kept_back, share_of};
+ghost use Rattle.hub_core.specs.Steps.{Works, is_kept_back, left_at, share_of};
 ghost use Rattle.request_replies.specs.Tenants.{map_of};
 ghost use Rattle.tenant_map.specs.Quotas.{usage_of};
 ghost use Rattle.wire_frames.specs.Frames.{front};
@@ -20,7 +20,7 @@ use crate::needs::{front_of, part_of};
 use crate::weights::weigh;
 use connection_turns::{Ahead, Answered, Work};
 use outbox::Step;
-use path_hub::{Advance, ConnectFault, Hub, Tasks};
+use path_hub::{Advance, ConnectFault, Hub, Tasks, work_is_left};
 use std::alloc::Global;
 use std::marker::Model;
 use tenant_map::Usage;
@@ -49,15 +49,15 @@ impl Model for HubCore {
 }
 
 impl HubCore {
-    /// The core of this hub, where nothing is under way.
-    pub fn new(alloc: Global, hub: Hub) -> HubCore
+    /// The core of this hub, where nothing is under way. The names of long texts are hashed by the factor: whoever does not know it cannot make names that meet.
+    pub fn new(alloc: Global, hub: Hub, factor: u64) -> HubCore
         ensures hub { result.hub ≡ hub }
         ensures none { result.tasks.asked.entries ≡ [] }
     {
         HubCore {
             hub,
             alloc,
-            tasks: Tasks::new(alloc),
+            tasks: Tasks::new(alloc, factor),
         }
     }
 
@@ -71,7 +71,9 @@ impl HubCore {
         ensures taken { IsErrOf result ConnectFault.Taken ↔ IsSome (session conn self.old.hub.sessions) }
         ensures err { OnErr result (self.new ≡ self.old) }
         ensures stays { self.new.tasks ≡ self.old.tasks }
+        ensures others { OthersKeep left_at conn self.old self.new }
     {
+        work_is_left();
         self.hub.connect(self.alloc, conn)
     }
 
@@ -79,8 +81,10 @@ impl HubCore {
     pub fn disconnect(&mut self, conn: u32) -> bool
         ensures was { result ≡ is_some (session conn self.old.hub.sessions) }
         ensures closes { Closes conn self.old.hub self.new.hub }
-        ensures gives_up { GivesUp conn self.old.tasks self.new.tasks }
+        ensures ended { left_at conn self.new ≡ None }
+        ensures others { OthersKeep left_at conn self.old self.new }
     {
+        work_is_left();
         self.give_up(conn);
         self.hub.disconnect(conn)
     }
@@ -89,20 +93,24 @@ impl HubCore {
     pub fn take(&mut self, conn: u32, piece: &[u8]) -> bool
         ensures taken { MatchBool result (takes conn self.old.hub piece.now self.new.hub × (is_over conn self.new.hub ≡ is_over conn self.old.hub)) (self.new ≡ self.old) }
         ensures stays { self.new.tasks ≡ self.old.tasks }
+        ensures others { OthersKeep left_at conn self.old self.new }
     {
+        work_is_left();
         self.hub.take(conn, piece).is_ok()
     }
 
     /// Appends the reply to the connection's next request, or does a share of the work on it. A query goes on for so many units before others are served, and a
     /// text is read for five places a unit.
-    #[tactic(auto, using(crate::proofs::Waiting::works_so))]
     pub fn answer(&mut self, conn: u32, work: Work, out: &mut Vec<u8>) -> Answered
         ensures appends { Appends (Answers conn) (IsIdle conn) (is_over conn) result.step self.old.hub out.old.items out.new.items self.new.hub }
         ensures asked { result.asked ≡ asks self.old.hub.tenants (body_at (front (waiting_on conn self.old.hub))) }
         ensures works { Works result.step result.units result.has_gone_on work.is_brief conn self.old self.new }
         ensures little { SpendsAt (share_of result.step result.units result.has_gone_on) conn self.old.hub self.old.tasks self.new.tasks work.units }
-        ensures working { result.step ≡ Step.Working → IsTrue (result.has_gone_on || (is_first_tenants conn self.old.hub || (work.is_brief && is_first_long conn self.old.hub))) }
+        ensures less { result.step ≡ Step.Working → IsTrue result.has_gone_on → IsLess (left_at conn self.old) (left_at conn self.new) }
+        ensures waiting { result.step ≡ Step.Working → IsFalse result.has_gone_on → IsTrue (is_kept_back work.is_brief conn self.old) × (self.new ≡ self.old) }
+        ensures others { OthersKeep left_at conn self.old self.new }
     {
+        work_is_left();
         let asked = asked_of(self.hub.tenants(), self.hub.waiting_bytes(conn));
         let (step, units, has_gone_on) = self.step(conn, work, out);
         Answered {
@@ -176,8 +184,11 @@ impl HubCore {
     /// Gives up the work that a connection has under way, so that no request waits for it. It begins anew where the request is answered next.
     pub fn give_up(&mut self, conn: u32)
         ensures hub { self.new.hub ≡ self.old.hub }
-        ensures gives_up { GivesUp conn self.old.tasks self.new.tasks }
+        ensures gives_up { Clears conn self.old.tasks self.new.tasks }
+        ensures ended { left_at conn self.new ≡ None }
+        ensures others { OthersKeep left_at conn self.old self.new }
     {
+        work_is_left();
         self.tasks.abandon(conn);
     }
 

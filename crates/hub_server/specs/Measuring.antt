@@ -2,7 +2,10 @@
 use Rattle.std.specs.Prelude.{◌≡◌, ◌==◌, ◌&&◌, ◌||◌, ℕ, List, slice_index, nat_le, nat_lt, Bool, false, if◌then◌else◌, Option, Some, None}
 use Rattle.path_hub.specs.HubState.{HubState}
 use Rattle.connection_turns.specs.declared.answered.RequestKind.{RequestKind}
-use Rattle.hub_core.specs.Asking.{asks, is_first_tenants}
+use Rattle.path_hub.specs.UnderWay.{is_first_held}
+use Rattle.path_hub.specs.WorkLeft.{work_left_at}
+use Rattle.path_hub.specs.declared.tasks.Tasks.{Tasks}
+use Rattle.hub_core.specs.Asking.{asks}
 use Rattle.hub_core.specs.Long.{is_first_long}
 use Rattle.hub_core.specs.Answering as listen
 use Rattle.admin_pages.specs.declared.counted.Metrics.{Metrics}
@@ -13,6 +16,11 @@ use Rattle.connection_turns.specs.Cores.{CoreSteps}
 pub record Measured : Type 0 where
   pub hub : HubState
   pub metrics : Metrics
+
+-- and the queries and readings that are under way
+pub record MeasuredWork : Type 0 where
+  pub seen : Measured
+  pub tasks : Tasks
 
 -- nothing was counted
 abbrev pub measured : HubState → Measured
@@ -79,13 +87,13 @@ abbrev pub is_over : ℕ → Measured → Bool
 is_over conn now = listen.is_over conn now.hub
 
 -- what it does at a connection, as a loop over it has it
-abbrev pub hub_steps : CoreSteps Measured
-hub_steps = record { opens = Opens; closes = Closes; takes = takes; answers = Answers }
+abbrev pub hub_steps : CoreSteps MeasuredWork
+hub_steps = record { Seen = Measured; seen = λ m. m.seen; left = λ conn m. work_left_at conn m.seen.hub m.tasks; opens = Opens; closes = Closes; takes = takes; answers = Answers }
 
--- whether the request in front is one that may wait for a query of its tenant
-abbrev pub hub_waits : ℕ → Measured → Bool
-hub_waits conn m = is_first_tenants conn m.hub
+-- whether the request in front waits for what others have under way
+abbrev pub hub_waits : ℕ → MeasuredWork → Bool
+hub_waits conn m = is_first_held conn m.seen.hub m.tasks
 
 -- whether it may take long
-abbrev pub hub_longs : ℕ → Measured → Bool
-hub_longs conn m = is_first_long conn m.hub
+abbrev pub hub_longs : ℕ → MeasuredWork → Bool
+hub_longs conn m = is_first_long conn m.seen.hub

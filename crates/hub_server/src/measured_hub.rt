@@ -17,7 +17,7 @@ const STATUS: usize = 4;
 /// The command that a query has.
 const QUERY: u8 = 5;
 
-/// A hub whose answers are counted. Its value is the hub and the counts.
+/// A hub whose answers are counted. Its value is the hub and the counts, and what is under way.
 #[derive(Drop)]
 pub struct MeasuredHub {
     core: HubCore,
@@ -27,17 +27,21 @@ pub struct MeasuredHub {
 }
 
 impl Model for MeasuredHub {
-    ghost use Rattle.hub_server.specs.Measuring.{Measured};
+    ghost use Rattle.std.specs.Coded.{codes};
+    ghost use Rattle.path_hub.specs.contracts.tasks.Tasks as under_way;
+    ghost use Rattle.hub_server.specs.Measuring.{MeasuredWork};
 
-    ghost Value = { Measured };
+    ghost Value = { MeasuredWork };
 
-    ghost view = { λ m. record { hub = m.core.hub; metrics = m.metrics } };
+    ghost coded = { Prim.hlevel (codes, under_way.the_row.coded) };
+
+    ghost view = { λ m. record { seen = record { hub = m.core.hub; metrics = m.metrics }; tasks = m.core.tasks } };
 }
 
 impl MeasuredHub {
     /// Over this hub. Nothing is counted yet.
     pub fn new(core: HubCore) -> MeasuredHub
-        ensures { result ≡ measured core.hub }
+        ensures { result.seen ≡ measured core.hub }
     {
         MeasuredHub {
             core,
@@ -55,8 +59,10 @@ impl MeasuredHub {
 
     // Counts a reply to what was asked, and tells whether it is one to a slow query.
     fn count(&mut self, answered: Answered, reply: &[u8]) -> Answered
-        ensures counts { Counts answered.asked reply.now self.old self.new }
+        ensures counts { Counts answered.asked reply.now self.old.seen self.new.seen }
+        ensures tasks { self.new.tasks ≡ self.old.tasks }
         ensures step { result.step ≡ answered.step }
+        ensures goes_on { result.has_gone_on ≡ answered.has_gone_on }
     {
         let served = served(
             answered.asked,
@@ -88,17 +94,17 @@ impl LoopCore for MeasuredHub {
 
     ghost over = { is_over };
 
-    ghost counted = { λ m. m.metrics };
+    ghost counted = { λ m. m.seen.metrics };
 
-    ghost aheads = { λ conn m ahead. IsAhead conn m.hub ahead };
+    ghost aheads = { λ conn m ahead. IsAhead conn m.seen.hub ahead };
 
-    ghost fronts = { λ conn m. front_at conn m.hub };
+    ghost fronts = { λ conn m. front_at conn m.seen.hub };
 
-    ghost may_wait = { hub_waits };
+    ghost waits = { hub_waits };
 
     ghost longs = { hub_longs };
 
-    ghost held = { λ key m. option_map usage_of (map_of key m.hub.tenants) };
+    ghost held = { λ key m. option_map usage_of (map_of key m.seen.hub.tenants) };
 
     fn connect(&mut self, conn: u32) -> bool {
         self.core.connect(conn).is_ok()

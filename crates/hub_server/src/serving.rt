@@ -21,8 +21,8 @@ pub fn serve<S: System + Drop, T: Time + Drop, J: Journal>(
     journal: &mut J,
 ) -> Result<(), LoopFault>
     ensures over { OnOk result (IsOver server.new) }
-    ensures served { AreServed (lanes_in server.old) (lanes_in server.new) }
-    ensures deaf { IsFalse server.old.listens → StaysDeaf server.old server.new }
+    ensures served { AreServed (lanes_in hub_steps server.old) (lanes_in hub_steps server.new) }
+    ensures deaf { IsFalse server.old.listens → StaysDeaf hub_steps server.old server.new }
     ensures limits { limits_in server.new.budgets ≡ limits_in server.old.budgets }
     ensures joined { AreJoined server.old → AreJoined server.new }
     ensures within { IsWithin server.new.budgets }
@@ -40,8 +40,8 @@ pub fn step<S: System + Drop, T: Time + Drop, J: Journal>(
     server: &mut Server<S, MeasuredHub, T>,
     journal: &mut J,
 ) -> Result<(), LoopFault>
-    ensures served { AreServed (lanes_in server.old) (lanes_in server.new) }
-    ensures deaf { IsFalse server.old.listens → StaysDeaf server.old server.new }
+    ensures served { AreServed (lanes_in hub_steps server.old) (lanes_in hub_steps server.new) }
+    ensures deaf { IsFalse server.old.listens → StaysDeaf hub_steps server.old server.new }
     ensures drains { OnOk result (IsTrue (is_some server.new.grace) → IsFalse server.new.listens) }
     ensures turns { OnOk result (GivesTurns S.Stream T hub_steps S.Stream.told hub_waits hub_longs server.old server.new) }
     ensures woken { NobodyIsForgotten server.old → OnOk result (NobodyIsForgotten server.new) }

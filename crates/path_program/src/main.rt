@@ -1,6 +1,7 @@
 //! The program `path_server`: answers what its command line asks for on the standard streams or over sockets, and ends with a status.
 #![tactic(auto)]
 
+mod factor;
 mod introduction;
 mod key_file;
 mod many;

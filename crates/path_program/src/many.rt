@@ -3,6 +3,7 @@
 ghost use Rattle.std.specs.Prelude.{◌≡◌};
 ghost use Rattle.server_arguments.specs.Statuses.{status_of};
 
+use crate::factor::factor_of;
 use crate::introduction::about;
 use crate::key_file::read_key_file;
 use crate::named_keys::{NamedKeys, keys_of_word};
@@ -207,14 +208,14 @@ fn core_of<R: AllocGlobal>(
     keys: &[[u8; 16]],
 ) -> Result<MeasuredHub, Failure> {
     match Hub::new(rt.alloc(), keys) {
-        Ok(hub) => Ok(measured(rt.alloc(), wanted, hub)),
+        Ok(hub) => Ok(measured(rt.alloc(), wanted, hub, factor_of(keys))),
         Err(fault) => Err(Failure::of_tenants(keys, fault)),
     }
 }
 
 // A core of this hub. Where somebody is told of it, slow queries are counted and told.
-fn measured(alloc: Global, wanted: &Listening<'_>, hub: Hub) -> MeasuredHub {
-    let mut core = MeasuredHub::new(HubCore::new(alloc, hub));
+fn measured(alloc: Global, wanted: &Listening<'_>, hub: Hub, factor: u64) -> MeasuredHub {
+    let mut core = MeasuredHub::new(HubCore::new(alloc, hub, factor));
     if wanted.log || wanted.admin.is_some() {
         core.tell_slow(u64::from(wanted.slow) * 1_000);
     }

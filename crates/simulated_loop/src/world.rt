@@ -2,6 +2,7 @@
 
 ghost use Rattle.std.specs.Prelude.{Some, false};
 ghost use Rattle.event_loop.specs.Servers.{lanes_in};
+ghost use Rattle.hub_server.specs.Measuring.{hub_steps};
 ghost use Rattle.hub_server.specs.Looping.{AreServed};
 
 use event_loop::{
@@ -41,6 +42,9 @@ const LOOKS: u64 = 100_003;
 
 /// That time, in milliseconds.
 const LEAP: u64 = 1_500;
+
+/// The factor by which names are hashed: any number does.
+const FACTOR: u64 = 1_234_567_891;
 
 /// What came of a run.
 #[derive(Clone, Copy, Default)]
@@ -377,7 +381,7 @@ impl<'w> Stage<'w> {
         shared: &mut Shared,
         outcome: &mut Outcome,
     ) -> Result<(), AllocError>
-        ensures { AreServed (lanes_in self.old.server.value) (lanes_in self.new.server.value) }
+        ensures { AreServed (lanes_in hub_steps self.old.server.value) (lanes_in hub_steps self.new.server.value) }
     {
         rounds_join();
         self.play(rt, peers, rounds, shared, outcome)?;
@@ -396,7 +400,7 @@ impl<'w> Stage<'w> {
         shared: &mut Shared,
         outcome: &mut Outcome,
     ) -> Result<(), AllocError>
-        ensures { AreServed (lanes_in self.old.server.value) (lanes_in self.new.server.value) }
+        ensures { AreServed (lanes_in hub_steps self.old.server.value) (lanes_in hub_steps self.new.server.value) }
     {
         rounds_join();
         'rounds: for round in 0..rounds {
@@ -413,7 +417,7 @@ impl<'w> Stage<'w> {
     // All have left, and one comes that asks for all its texts: for the longest reply there is room only where nobody holds memory any more. Whether
     // it came.
     fn settle(&mut self, peers: &mut [Peer], shared: &mut Shared) -> Result<bool, AllocError>
-        ensures { AreServed (lanes_in self.old.server.value) (lanes_in self.new.server.value) }
+        ensures { AreServed (lanes_in hub_steps self.old.server.value) (lanes_in hub_steps self.new.server.value) }
     {
         rounds_join();
         'rounds: for _ in 0..PATIENCE {
@@ -427,7 +431,7 @@ impl<'w> Stage<'w> {
 
     // One round of the server.
     fn step(&mut self) -> Result<(), AllocError>
-        ensures { AreServed (lanes_in self.old.server.value) (lanes_in self.new.server.value) }
+        ensures { AreServed (lanes_in hub_steps self.old.server.value) (lanes_in hub_steps self.new.server.value) }
     {
         let millis = self.room.millis;
         millis.set(millis.get().saturating_add(ROUND));
@@ -577,7 +581,7 @@ fn server<'w>(
         millis: room.millis,
         looks: room.looks,
     };
-    let core = MeasuredHub::new(HubCore::new(alloc, hub));
+    let core = MeasuredHub::new(HubCore::new(alloc, hub, FACTOR));
     Server::over(alloc, system, watch, watch, core, *limits).ok()
 }
 
