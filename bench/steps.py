@@ -38,7 +38,7 @@ from sockets import SMALL
 
 REMOVE, LIST, DROP, NOT_JSON = 3, 4, 6, 7
 GETS, PAUSE, SHORT = 100, 0.06, 65_536
-COUNTS, REFUSED, MEETING = (10, 100, 250), "empty arrays, refused at its end", "one object, names with an escape that meet"
+COUNTS, REFUSED, MEETING = (10, 100, 250), "empty arrays, refused at its end", "one object, names with an escape made to meet"
 COMPARING = ("20 strings, escaped,", "95 strings, escaped,", "three long arrays,", "28 strings,", "28 arrays,")
 QUIET, ONE, TWO, OTHERS = KEYS[-1], KEYS[0], KEYS[1], KEYS[:250]
 ASKED, ANSWER = request(GET, name(b"c") + name(b"d"), QUIET), reply(SMALL)
@@ -192,8 +192,8 @@ def puts():
             "one string": '"' + "s" * (TEXT - 2) + '"', "one string of escapes": '"' + "\\n" * (TEXT // 2 - 1) + '"', "strings of one escape": many('"\\n"'),
             "numbers with exponents": many("-1.5e-3"), "orders": items(TEXT).decode(), "one object": members(numbered(800_000))[0],
             "one object, names spelt by escapes": members(escaped(800_000))[0], "one object, long names with an escape": members(long_names(80_000))[0],
-            "one object, names that meet": text_of("", TEXT, True).decode(), MEETING: text_of("\n", TEXT, True).decode(),
-            "one object, short names that meet": short_text(TEXT).decode()}
+            "one object, names made to meet": text_of("", TEXT, True).decode(), MEETING: text_of("\n", TEXT, True).decode(),
+            "one object, short names made to meet": short_text(TEXT).decode()}
     made = {kind: putting(text.encode()) for kind, text in made.items()}
     orders, short = made["orders"], putting(items(65_000))
     rows = [(kind, 1) for kind in made] + [("one string", it) for it in COUNTS] + [(kind, it) for kind in (REFUSED, "orders") for it in (10, 100)] + [(MEETING, 10)]

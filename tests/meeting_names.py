@@ -1,9 +1,10 @@
 #!/usr/bin/env python3
 """Reads texts of objects whose names were made to have one hash, or one mark: tests/meeting_names.py [BYTES].
 
-The names are made for the factor that stands in the source of the hash. Each text has names of one kind: as they are meant, or with an escape. What
-`path_server query` says of it is compared: one member is found, and a name that comes again is refused. The time is compared with that of a text of
-the same length whose hashes differ; it is at most 12 times as long in the best of three tries. BYTES is the length of the texts, 4 MiB by default.
+The names are made for a factor that is known, the one that stands in the source of the hash. `path_server query` hashes by it. A server hashes the
+names of long texts by one that is drawn from its keys, for which nobody else can make them. Each text has names of one kind: as they are meant, or with
+an escape. What `path_server query` says of it is compared: one member is found, and a name that comes again is refused. The time is compared with that
+of a text of the same length whose hashes differ; it is at most 12 times as long in the best of three tries. BYTES is the length of the texts, 4 MiB by default.
 Objects of 15 to 18 and of 63 to 66 members have names of one mark, of one place among the marks, and usual ones, each with and without a name that
 comes again. What is said of them is compared with Python's `json`, which hands out the pairs of each object. One more object, of a quarter of BYTES, has short names
 of one hash in no order.
@@ -38,55 +39,62 @@ STAMP, PLACE = 47, 55
 """A name's stamp is what is above so many bits of its hash, and its place what is above so many."""
 
 
-def word_of(scalars):
-    """The number of up to eight scalar values as digits of 256, as the source has it."""
-    word = 0
-    for scalar in scalars:
-        word = (word * 256 + ord(scalar)) % WORDS
-    return word
+def chained(found, word, factor):
+    """A hash with one more word behind it, as the source has it."""
+    product = found * factor
+    return (product - (product >> 64) + word) % WORDS
 
 
-def hash_of(name):
+def hash_of(name, factor=FACTOR):
+    """The hash of a name of ASCII."""
     found = 0
     for at in range(0, len(name), LETTERS):
-        found = (found * FACTOR + word_of(name[at:at + LETTERS])) % WORDS
+        found = chained(found, int.from_bytes(name[at:at + LETTERS].encode("ascii"), "big"), factor)
     return found
 
 
-def eight_letters(word):
-    """Eight scalar values from 100 to 1ff (hexadecimal) whose word is this: each gives a one to the digit before it."""
-    letters, carry = [], 0
-    for at in range(LETTERS):
-        digit = (word >> (8 * at)) % 256 - carry
-        letters.append(chr(256 + digit % 256))
-        carry = 1 + (digit < 0)
-    return "".join(reversed(letters))
+def spread(found, factor):
+    """The half of a hash that stands before a member's number."""
+    return found * factor % WORDS >> 32
 
 
-def name_at(front, number, meets):
-    """A name that begins with these and is told apart by its number; its last word makes its hash."""
-    first = front + f"{number:0{LETTERS - len(front) % LETTERS}}"
-    return first + eight_letters((TARGET - hash_of(first) * FACTOR) % WORDS if meets else number * FACTOR % WORDS)
-
-
-def short_names(count, chance):
-    """So many names of eight letters, in no order, that have one hash of 32 bits: the first four letters are made for the last four."""
-    inverse, target, pairs, names = pow(FACTOR, -1, HALF), TARGET >> 32, bytearray(1 << 16), []
+def meeting_words(before, count, factor):
+    """So many words of eight letters, each the first one that follows its last four letters, that behind these words make names of one half of a
+    hash: the first four letters are made for the last four."""
+    found = chained(hash_of(before, factor), 0, factor) if before else 0
+    inverse, target, pairs, words = pow(factor, -1, HALF), TARGET >> 32, bytearray(1 << 16), []
     for pair in itertools.product(SHORT_LETTERS, repeat=2):
         pairs[int.from_bytes(bytes(pair), "big")] = 1
     for front in itertools.product(SHORT_LETTERS, repeat=3):
         for last in (int.from_bytes(bytes(front), "big") << 8 | it for it in SHORT_LETTERS):
-            first = (target - (last * FACTOR >> 32)) * inverse % HALF
+            low = (found + last) % HALF
+            first = ((target - (low * factor >> 32)) * inverse - (found + last >> 32)) % HALF
             if pairs[first >> 16] and pairs[first & 65535]:
-                names.append((first << 32 | last).to_bytes(8, "big").decode())
-        if len(names) >= count:
+                words.append((first << 32 | last).to_bytes(8, "big").decode())
+        if len(words) >= count:
             break
-    return chance.sample(names, count)
+    return words[:count]
+
+
+def padded(front):
+    """These letters, and as many more as whole words have."""
+    return front + "x" * (-len(front) % LETTERS)
+
+
+def names_of(front, count, meets, factor=FACTOR):
+    """So many names that begin with these letters, of one half of a hash or of many."""
+    before = padded(front)
+    words = meeting_words(before, count, factor) if meets else [f"{number:0{LETTERS}}" for number in range(count)]
+    names = [before + word for word in words]
+    if meets and len({spread(hash_of(name, factor), factor) for name in names[:1000]}) > 1:
+        sys.exit(f"meeting_names: the hash of {SOURCE} is another one")
+    return names
 
 
 def short_text(length, again=False, before=""):
-    """One object of about so many bytes, of short names of one hash behind the same letters; its last name is its first one again if that is wanted."""
-    names = [before + it for it in short_names(length // (len(before) + 13), random.Random(17))]
+    """One object of about so many bytes, of short names of one hash behind the same letters, in no order; its last name is its first one again if that is wanted."""
+    names = names_of(before, length // (len(padded(before)) + 13), True)
+    random.Random(17).shuffle(names)
     return ("{" + ",".join(map(spelt, names[:-1] + names[:1] if again else names)) + "}").encode()
 
 
@@ -96,10 +104,7 @@ def spelt(name):
 
 def text_of(front, length, meets, again=False):
     """One object of about so many bytes; its last name is its first one again if that is wanted."""
-    count = length // (len(spelt(name_at(front, 0, True)).encode()) + 1)
-    names = [name_at(front, number, meets) for number in range(count)]
-    if meets and {hash_of(name) for name in names[:1000]} != {TARGET}:
-        sys.exit(f"meeting_names: the hash of {SOURCE} is another one")
+    names = names_of(front, length // (len(spelt(padded(front) + "x" * LETTERS)) + 1), meets)
     if again:
         names[-1] = names[0]
     return ("{" + ",".join(map(spelt, names)) + "}").encode()
@@ -115,8 +120,7 @@ def ask(text, query):
 def try_kind(report, kind, front, length):
     meeting, usual = text_of(front, length, True), text_of(front, length, False)
     report.case(f"{kind}: lengths", "", len(usual), len(meeting))
-    name = name_at(front, 77, True)
-    path = name.replace("\n", "\\n")
+    path = list(json.loads(meeting))[77].replace("\n", "\\n").replace("'", "\\'")
     report.case(f"{kind}: a member", path, (0, f"$['{path}']\t0\n".encode(), b""), ask(meeting, f"$['{path}']")[0])
     again = ask(text_of(front, length, True, again=True), "$.none")[0]
     report.case(f"{kind}: a name that comes again", "", (1, b"", b"DuplicateName"), (*again[:2], again[2].split(b"\n")[0].split()[-1]))
