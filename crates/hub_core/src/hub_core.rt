@@ -81,6 +81,7 @@ impl HubCore {
     pub fn disconnect(&mut self, conn: u32) -> bool
         ensures was { result ≡ is_some (session conn self.old.hub.sessions) }
         ensures closes { Closes conn self.old.hub self.new.hub }
+        ensures gives_up { Clears conn self.old.tasks self.new.tasks }
         ensures ended { left_at conn self.new ≡ None }
         ensures others { OthersKeep left_at conn self.old self.new }
     {
