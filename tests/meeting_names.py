@@ -11,6 +11,7 @@ of one hash in no order.
 The program is the one that bin/build makes, or the one that the environment's PATH_SERVER names.
 """
 import bisect
+import functools
 import itertools
 import json
 import os
@@ -58,19 +59,22 @@ def spread(found, factor):
     return found * factor % WORDS >> 32
 
 
+@functools.cache
 def meeting_words(before, count, factor):
-    """So many words of eight letters, each the first one that follows its last four letters, that behind these words make names of one half of a
-    hash: the first four letters are made for the last four."""
+    """So many words of eight letters that behind these words make names of one half of a hash: the first four letters are made for the last four."""
     found = chained(hash_of(before, factor), 0, factor) if before else 0
     inverse, target, pairs, words = pow(factor, -1, HALF), TARGET >> 32, bytearray(1 << 16), []
     for pair in itertools.product(SHORT_LETTERS, repeat=2):
         pairs[int.from_bytes(bytes(pair), "big")] = 1
+    steps = [it * factor for it in SHORT_LETTERS]
     for front in itertools.product(SHORT_LETTERS, repeat=3):
-        for last in (int.from_bytes(bytes(front), "big") << 8 | it for it in SHORT_LETTERS):
-            low = (found + last) % HALF
-            first = ((target - (low * factor >> 32)) * inverse - (found + last >> 32)) % HALF
-            if pairs[first >> 16] and pairs[first & 65535]:
-                words.append((first << 32 | last).to_bytes(8, "big").decode())
+        last = int.from_bytes(bytes(front), "big") << 8
+        high, low = divmod(found + last, HALF)
+        if low + 256 > HALF:
+            continue
+        product = low * factor
+        firsts = [((target - (product + step >> 32)) * inverse - high) % HALF for step in steps]
+        words += [(first << 32 | last + it).to_bytes(8, "big").decode() for it, first in zip(SHORT_LETTERS, firsts) if pairs[first >> 16] and pairs[first & 65535]]
         if len(words) >= count:
             break
     return words[:count]
