@@ -86,6 +86,7 @@ impl DueList {
     ) -> Result<(), AllocError>
         ensures last { OnOk result (IsLast is_under_way (due_at key number tenant) self.old self.new) }
         ensures unchanged { OnErr result ((self.new.first.items ≡ self.old.first.items) × (self.new.rest.items ≡ self.old.rest.items)) }
+        ensures longs { self.new.longs ≡ self.old.longs }
     {
         let due = Due {
             key,
@@ -162,8 +163,8 @@ impl DueList {
         self.has_span(due) && (!is_long || self.longs.may_begin(due.party))
     }
 
-    // Whether the turns of a party took less than a span.
-    fn has_span(&self, due: Due) -> bool
+    /// Whether the turns of a party took less than a span in this round: where they did not, there is no time for a further one, whatever it may take.
+    pub fn has_span(&self, due: Due) -> bool
         ensures { result ≡ nat_lt (slice_index self.now.micros due.party) 1000 }
     {
         self.micros.get(due.party).copied().unwrap_or(0) < SPAN

@@ -1,3 +1,4 @@
+pub mod Blocks
 pub mod Frames
 pub mod Framing
 pub mod NextFrame

@@ -4,7 +4,8 @@ ghost use Rattle.wire_frames.specs.Looks.{Shows};
 ghost use Rattle.wire_frames.specs.Framing.{fresh, with_piece, framing_after, HasFrame};
 ghost use Rattle.wire_frames.specs.NextFrame.{next_of, lent_as};
 
-use bytes::{Bytes, BytesMut};
+use crate::block::Waiting;
+use bytes::Bytes;
 use std::alloc::{AllocError, Global};
 use std::marker::Model;
 use store_names::LENGTH_BYTES;
@@ -50,10 +51,8 @@ pub enum AcceptFault {
 /// of that length.
 #[derive(Debug, Drop)]
 pub struct Framer {
-    waiting: BytesMut,
+    waiting: Waiting,
     closed: bool,
-    // Bytes taken off the block that holds what waits. Nothing but the block's size depends on them.
-    passed: usize,
 }
 
 impl Model for Framer {
@@ -61,9 +60,9 @@ impl Model for Framer {
 
     ghost Value = { Framing };
 
-    ghost view = { λ f. record { waiting = f.waiting.items; closed = f.closed } };
+    ghost view = { λ f. record { waiting = f.waiting; closed = f.closed } };
 
-    ghost invariant = { λ f. IsClosedByFault f.waiting.items f.closed };
+    ghost invariant = { λ f. IsClosedByFault f.waiting f.closed };
 }
 
 impl Framer {
@@ -72,9 +71,8 @@ impl Framer {
         ensures { result ≡ Ok fresh }
     {
         Ok(Framer {
-            waiting: BytesMut::new(alloc),
+            waiting: Waiting::new(alloc),
             closed: false,
-            passed: 0,
         })
     }
 
@@ -146,25 +144,9 @@ impl Framer {
         match front_of(self.waiting.as_slice()) {
             Look::Frame(length) => {
                 self.waiting.advance(LENGTH_BYTES + length);
-                self.passed = self.passed.saturating_add(LENGTH_BYTES + length);
-                self.fit_block();
             }
             Look::Wait => {}
             Look::Fault => self.closed = true,
-        }
-    }
-
-    // Puts the bytes that wait into a block of their own, where that is no longer than what was taken off the old one.
-    fn fit_block(&mut self)
-        ensures { self.new ≡ self.old }
-    {
-        if self.passed < self.waiting.len() {
-            return;
-        }
-        let alloc = *self.waiting.allocator();
-        if let Ok(own) = BytesMut::copy_from_slice(alloc, self.waiting.as_slice()) {
-            self.waiting = own;
-            self.passed = 0;
         }
     }
 
@@ -172,7 +154,7 @@ impl Framer {
     pub fn waiting(&self) -> usize
         ensures { result ≡ length self.now.waiting }
     {
-        self.waiting.len()
+        self.waiting_bytes().len()
     }
 
     /// The bytes that wait.

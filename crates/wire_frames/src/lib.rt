@@ -5,6 +5,7 @@
 //! moved only once at least as many were taken off before them, so that the time is linear in the stream.
 #![tactic(auto)]
 
+mod block;
 mod framing;
 mod laws;
 mod parts;
