@@ -104,6 +104,8 @@ impl Core for Repeating {
 
     ghost left = { λ conn now. None };
 
+    ghost holds = { λ is_brief conn now. false };
+
     fn take(&mut self, _conn: u32, piece: &[u8]) -> bool {
         if self.most == 0 {
             return false;
@@ -112,7 +114,7 @@ impl Core for Repeating {
         true
     }
 
-    fn answer_next(&mut self, _conn: u32, out: &mut Vec<u8>) -> Step {
+    fn answer_next(&mut self, _conn: u32, _is_brief: bool, out: &mut Vec<u8>) -> Step {
         if self.waiting == 0 || self.most == 0 {
             return Step::Idle;
         }
@@ -148,7 +150,15 @@ fn turns(
             writable: true,
             waiting,
         };
-        turn(&mut outbox, wire, &mut core, 0, &mut buffer, &mut ready);
+        turn(
+            &mut outbox,
+            wire,
+            &mut core,
+            0,
+            false,
+            &mut buffer,
+            &mut ready,
+        );
         waiting = ready.waiting;
     }
     Ok(outbox)

@@ -8,8 +8,6 @@ use std::time::Duration;
 pub struct Work {
     /// The units for which a query goes on before others are served, or for which a text is read.
     pub units: u64,
-    /// No request that may take long is answered.
-    pub is_brief: bool,
     /// The microseconds that the request in front took so far.
     pub micros: u64,
     /// Since when it takes more of them, where a clock tells it.

@@ -66,10 +66,10 @@ pub struct Claim {
     pub bytes: usize,
     /// The second in which it was granted.
     pub since: u64,
+    /// Which party of its budget holds it.
+    pub party: usize,
     /// Whose budget it is of.
     pub pool: Pool,
-    /// Which party of that budget holds it.
-    pub party: usize,
     /// What it is for.
     pub purpose: Purpose,
     /// It is held, and waits no more.

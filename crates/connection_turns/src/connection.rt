@@ -1,16 +1,17 @@
 //! One connection and what is known of it.
-ghost use Rattle.std.specs.Prelude.{◌≡◌, ◌<◌, ◌≤◌, ◌||◌, length, Bool, Some, None, false, IsTrue, if◌then◌else◌};
+ghost use Rattle.std.specs.Prelude.{◌≡◌, ◌<◌, ◌≤◌, ◌||◌, length, Bool, Some, None, true, false, IsFalse, IsTrue, if◌then◌else◌};
 ghost use Rattle.outbox.specs.Appends.{OthersKeep};
 ghost use Rattle.outbox.specs.Lines.{fresh, is_over};
 ghost use Rattle.outbox.specs.Traffic.{HasMoved, IsReadOn};
 ghost use Rattle.outbox.specs.Turns as turns;
 ghost use Rattle.outbox.specs.Turns.{Flushes};
+ghost use Rattle.connection_turns.specs.Cores.{is_held};
 ghost use Rattle.connection_turns.specs.Expiring.{expiry_of, end_in, has_lingered, idle_end, is_quiet};
 ghost use Rattle.connection_turns.specs.Held.{renewed};
 ghost use Rattle.connection_turns.specs.Owed.{line_of, wire_of, is_lost, has_left, rests};
 ghost use Rattle.connection_turns.specs.Planning as planning;
 ghost use Rattle.connection_turns.specs.Planning.{raised, ends, end_of, outcome_of, plan_of, next_of, plan_in, can_go_by, KeepsTurn};
-ghost use Rattle.connection_turns.specs.Turning.{Adds, DrainsOn, Progresses, dried, moment_of};
+ghost use Rattle.connection_turns.specs.Turning.{Adds, AdvancesAt, DrainsOn, Progresses, dried, is_answering, moment_of};
 
 use crate::claim::{Claim, Pool, Purpose};
 use crate::counted::{Counted, TurnBounds};
@@ -78,6 +79,10 @@ pub struct Connection<S: Peer> {
     pub moved: u64,
     // The second in which it was accepted.
     accepted: u64,
+    /// The microseconds that the request which is answered next took so far.
+    pub worked: u64,
+    /// The place of the last tenant that asked on it.
+    pub tenant: Option<usize>,
     /// Its share of the budgets.
     pub claim: Option<Claim>,
     /// What its peer is owed.
@@ -97,10 +102,6 @@ pub struct Connection<S: Peer> {
     pub is_due: bool,
     /// A frame came in part, or is not answered.
     pub has_part: bool,
-    /// The place of the last tenant that asked on it.
-    pub tenant: Option<usize>,
-    /// The microseconds that the request which is answered next took so far.
-    pub worked: u64,
     /// A query of it is under way.
     pub is_working: bool,
 }
@@ -240,17 +241,19 @@ impl<S: Peer> Connection<S> {
     ) -> (usize, usize)
         requires some { 0 < most }
         requires within { most ≤ length buffer.old }
-        ensures turn { Progresses (C.steps.takes conn) (C.steps.answers conn) (can_go_by plan self.old.ready self.old.outbox) (moment_of S.told (C.steps.seen core.old) self.old) (moment_of S.told (C.steps.seen core.new) self.new) }
+        ensures turn { Progresses (C.steps.takes conn) (C.steps.answers conn) (C.steps.idle conn) (can_go_by plan self.old.ready self.old.outbox) (moment_of S.told (C.steps.seen core.old) (C.steps.left conn core.old) self.old) (moment_of S.told (C.steps.seen core.new) (C.steps.left conn core.new) self.new) }
         ensures moved { HasMoved (wire_of S.told self.old) (wire_of S.told self.new) result.0 result.1 }
         ensures owed { Adds plan (C.steps.answers conn) (C.steps.seen core.old) (length self.old.outbox.owed) (length self.new.outbox.owed) }
         ensures writes { plan ≡ TurnPlan.Write → core.new ≡ core.old }
         ensures phase { self.new.phase ≡ self.old.phase }
         ensures due { KeepsTurn self.old self.new }
         ensures claim { self.new.claim ≡ self.old.claim }
+        ensures advances { IsTrue (is_answering plan) → turns.can_answer self.old.ready self.old.outbox ≡ true → IsFalse (is_held C.waits C.longs share.is_brief conn core.old)
+            → AdvancesAt C.steps S.told conn core.old core.new self.old self.new }
         ensures others { OthersKeep C.steps.left conn core.old core.new }
     {
         core.begin(share);
-        let counts = self.go(core, conn, &mut buffer[..most], plan);
+        let counts = self.go(core, conn, &mut buffer[..most], plan, share.is_brief);
         let done = core.done();
         self.has_faulted = self.has_faulted || done.has_faulted();
         self.is_known = self.is_known || done.has_heard();
@@ -265,22 +268,25 @@ impl<S: Peer> Connection<S> {
         conn: u32,
         buffer: &mut [u8],
         plan: TurnPlan,
+        is_brief: bool,
     ) -> (usize, usize)
         requires { 0 < length buffer.old }
-        ensures turn { Progresses (C.steps.takes conn) (C.steps.answers conn) (can_go_by plan self.old.ready self.old.outbox) (moment_of S.told (C.steps.seen core.old) self.old) (moment_of S.told (C.steps.seen core.new) self.new) }
+        ensures turn { Progresses (C.steps.takes conn) (C.steps.answers conn) (C.steps.idle conn) (can_go_by plan self.old.ready self.old.outbox) (moment_of S.told (C.steps.seen core.old) (C.steps.left conn core.old) self.old) (moment_of S.told (C.steps.seen core.new) (C.steps.left conn core.new) self.new) }
         ensures moved { HasMoved (wire_of S.told self.old) (wire_of S.told self.new) result.0 result.1 }
         ensures owed { Adds plan (C.steps.answers conn) (C.steps.seen core.old) (length self.old.outbox.owed) (length self.new.outbox.owed) }
         ensures writes { plan ≡ TurnPlan.Write → core.new ≡ core.old }
         ensures phase { self.new.phase ≡ self.old.phase }
         ensures due { KeepsTurn self.old self.new }
         ensures claim { self.new.claim ≡ self.old.claim }
+        ensures advances { IsTrue (is_answering plan) → turns.can_answer self.old.ready self.old.outbox ≡ true → IsFalse (is_held C.waits C.longs is_brief conn core.old)
+            → AdvancesAt C.steps S.told conn core.old core.new self.old self.new }
         ensures others { OthersKeep C.steps.left conn core.old core.new }
     {
         match plan {
             TurnPlan::Read => (self.read(core, conn, buffer), 0),
             TurnPlan::Write => (0, self.write()),
-            TurnPlan::Answer => (0, self.answer(core, conn)),
-            TurnPlan::All => self.serve(core, conn, buffer),
+            TurnPlan::Answer => (0, self.answer(core, conn, is_brief)),
+            TurnPlan::All => self.serve(core, conn, buffer, is_brief),
         }
     }
 
@@ -303,14 +309,17 @@ impl<S: Peer> Connection<S> {
         core: &mut Counted<C, T>,
         conn: u32,
         buffer: &mut [u8],
+        is_brief: bool,
     ) -> (usize, usize)
         requires { 0 < length buffer.old }
-        ensures turn { Progresses (C.steps.takes conn) (C.steps.answers conn) (turns.can_go_on self.old.ready self.old.outbox) (moment_of S.told (C.steps.seen core.old) self.old) (moment_of S.told (C.steps.seen core.new) self.new) }
+        ensures turn { Progresses (C.steps.takes conn) (C.steps.answers conn) (C.steps.idle conn) (turns.can_go_on self.old.ready self.old.outbox) (moment_of S.told (C.steps.seen core.old) (C.steps.left conn core.old) self.old) (moment_of S.told (C.steps.seen core.new) (C.steps.left conn core.new) self.new) }
         ensures moved { HasMoved (wire_of S.told self.old) (wire_of S.told self.new) result.0 result.1 }
         ensures owed { Adds TurnPlan.All (C.steps.answers conn) (C.steps.seen core.old) (length self.old.outbox.owed) (length self.new.outbox.owed) }
         ensures phase { self.new.phase ≡ self.old.phase }
         ensures due { KeepsTurn self.old self.new }
         ensures claim { self.new.claim ≡ self.old.claim }
+        ensures advances { turns.can_answer self.old.ready self.old.outbox ≡ true → IsFalse (is_held C.waits C.longs is_brief conn core.old)
+            → AdvancesAt C.steps S.told conn core.old core.new self.old self.new }
         ensures others { OthersKeep C.steps.left conn core.old core.new }
     {
         let counts = turn(
@@ -318,6 +327,7 @@ impl<S: Peer> Connection<S> {
             &mut self.socket,
             core,
             conn,
+            is_brief,
             buffer,
             &mut self.ready,
         );
@@ -326,13 +336,20 @@ impl<S: Peer> Connection<S> {
     }
 
     // Answers one request, and writes. It does not read, so that the reply is the one whose length was told.
-    fn answer<C: LoopCore, T: Time + Drop>(&mut self, core: &mut Counted<C, T>, conn: u32) -> usize
-        ensures turn { Progresses (C.steps.takes conn) (C.steps.answers conn) (turns.can_answer self.old.ready self.old.outbox) (moment_of S.told (C.steps.seen core.old) self.old) (moment_of S.told (C.steps.seen core.new) self.new) }
+    fn answer<C: LoopCore, T: Time + Drop>(
+        &mut self,
+        core: &mut Counted<C, T>,
+        conn: u32,
+        is_brief: bool,
+    ) -> usize
+        ensures turn { Progresses (C.steps.takes conn) (C.steps.answers conn) (C.steps.idle conn) (turns.can_answer self.old.ready self.old.outbox) (moment_of S.told (C.steps.seen core.old) (C.steps.left conn core.old) self.old) (moment_of S.told (C.steps.seen core.new) (C.steps.left conn core.new) self.new) }
         ensures moved { HasMoved (wire_of S.told self.old) (wire_of S.told self.new) 0 result }
         ensures owed { Adds TurnPlan.Answer (C.steps.answers conn) (C.steps.seen core.old) (length self.old.outbox.owed) (length self.new.outbox.owed) }
         ensures phase { self.new.phase ≡ self.old.phase }
         ensures due { KeepsTurn self.old self.new }
         ensures claim { self.new.claim ≡ self.old.claim }
+        ensures advances { turns.can_answer self.old.ready self.old.outbox ≡ true → IsFalse (is_held C.waits C.longs is_brief conn core.old)
+            → AdvancesAt C.steps S.told conn core.old core.new self.old self.new }
         ensures others { OthersKeep C.steps.left conn core.old core.new }
     {
         reply(
@@ -340,6 +357,7 @@ impl<S: Peer> Connection<S> {
             &mut self.socket,
             core,
             conn,
+            is_brief,
             &mut self.ready,
         )
     }
@@ -352,7 +370,7 @@ impl<S: Peer> Connection<S> {
         buffer: &mut [u8],
     ) -> usize
         requires { 0 < length buffer.old }
-        ensures turn { Progresses (C.steps.takes conn) (C.steps.answers conn) (turns.can_read self.old.ready self.old.outbox) (moment_of S.told (C.steps.seen core.old) self.old) (moment_of S.told (C.steps.seen core.new) self.new) }
+        ensures turn { Progresses (C.steps.takes conn) (C.steps.answers conn) (C.steps.idle conn) (turns.can_read self.old.ready self.old.outbox) (moment_of S.told (C.steps.seen core.old) (C.steps.left conn core.old) self.old) (moment_of S.told (C.steps.seen core.new) (C.steps.left conn core.new) self.new) }
         ensures moved { HasMoved (wire_of S.told self.old) (wire_of S.told self.new) result 0 }
         ensures owed { length self.new.outbox.owed ≤ length self.old.outbox.owed }
         ensures phase { self.new.phase ≡ self.old.phase }

@@ -2,6 +2,7 @@
 ghost use Rattle.std.specs.Prelude.{◌≡◌, None};
 ghost use Rattle.std.specs.Bool.{MatchBool};
 ghost use Rattle.outbox.specs.Appends.{OthersKeep};
+ghost use Rattle.connection_turns.specs.Cores.{is_held};
 
 use crate::answered::{Answered, Work};
 use crate::journal::Slow;
@@ -19,6 +20,8 @@ const SPAN: u64 = 1;
 pub struct TurnBounds {
     /// What each of its steps may do.
     pub work: Work,
+    /// No request that may take long is answered.
+    pub is_brief: bool,
     /// Others wait for a turn: it ends behind a share of work on a query.
     pub is_shared: bool,
 }
@@ -69,10 +72,10 @@ impl<C: LoopCore, T: Time + Drop> Counted<C, T> {
             share: TurnBounds {
                 work: Work {
                     units: 0,
-                    is_brief: false,
                     micros: 0,
                     since: None,
                 },
+                is_brief: false,
                 is_shared: false,
             },
             done: nothing(),
@@ -184,19 +187,23 @@ impl<C: LoopCore, T: Time + Drop> Core for Counted<C, T> {
 
     ghost answers = { C.steps.answers };
 
-    ghost idle = { C.idle };
+    ghost idle = { C.steps.idle };
 
     ghost over = { C.over };
 
     ghost left = { C.steps.left };
+
+    ghost holds = { is_held C.waits C.longs };
 
     fn take(&mut self, conn: u32, piece: &[u8]) -> bool {
         self.share.work.since = self.time.now();
         self.core.take(conn, piece)
     }
 
-    fn answer_next(&mut self, conn: u32, out: &mut Vec<u8>) -> Step {
-        let answered = self.core.answer(conn, self.share.work, &self.time, out);
+    fn answer_next(&mut self, conn: u32, is_brief: bool, out: &mut Vec<u8>) -> Step {
+        let answered = self
+            .core
+            .answer(conn, self.share.work, is_brief, &self.time, out);
         self.note_answer(&answered);
         answered.step
     }

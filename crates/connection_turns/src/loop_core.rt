@@ -1,10 +1,9 @@
 //! What a loop asks of the core that answers its connections.
-ghost use Rattle.std.specs.Prelude.{◌≡◌, ◌&&◌, ◌||◌, ℕ, Bool, IsFalse, IsTrue, List, None, Option};
+ghost use Rattle.std.specs.Prelude.{◌≡◌, ℕ, Bool, IsFalse, IsTrue, List, None, Option};
 ghost use Rattle.std.specs.Bool.{MatchBool};
 ghost use Rattle.admin_pages.specs.declared.counted.Metrics.{Metrics};
-ghost use Rattle.connection_turns.specs.Cores.{CoreSteps, IsLess, IsMost};
-ghost use Rattle.connection_turns.specs.declared.ahead.Ahead.{Ahead};
-ghost use Rattle.outbox.specs.Appends.{Appends, OthersKeep};
+ghost use Rattle.connection_turns.specs.Cores.{CoreSteps, IsMost, is_held};
+ghost use Rattle.outbox.specs.Appends.{Appends, IsLess, KeepsWork, OthersKeep};
 ghost use Rattle.tenant_map.specs.declared.usage.Usage.{Usage};
 
 use crate::ahead::Ahead;
@@ -19,17 +18,11 @@ pub trait LoopCore: Drop {
     /// What it does at a connection.
     ghost steps: { CoreSteps Self };
 
-    /// No request of the connection waits.
-    ghost idle: { ℕ → steps.Seen → Type 0 };
-
     /// No further request of the connection is answered.
     ghost over: { ℕ → steps.Seen → Bool };
 
     /// What it has counted.
     ghost counted: { Self → Metrics };
-
-    /// What is in front on a connection.
-    ghost aheads: { ℕ → Self → Ahead → Type 0 };
 
     /// The place of the tenant whose key is in front of what waits on a connection.
     ghost fronts: { ℕ → Self → Option ℕ };
@@ -57,19 +50,28 @@ pub trait LoopCore: Drop {
     /// Takes a piece, which is not empty. `false` if it declines the piece and changes nothing.
     fn take(&mut self, conn: u32, piece: &[u8]) -> bool
         ensures taken { MatchBool result (steps.takes conn (steps.seen self.old) piece.now (steps.seen self.new) × (over conn (steps.seen self.new) ≡ over conn (steps.seen self.old))) (self.new ≡ self.old) }
+        ensures works { KeepsWork (steps.left conn self.old) (steps.left conn self.new) }
         ensures others { OthersKeep steps.left conn self.old self.new };
 
     /// Appends the reply to the connection's next request, or does a share of the work on it, which leaves less of it. Nothing is done where the request waits for
-    /// others, or where it may take long and the turn is brief.
-    fn answer<T: Time>(&mut self, conn: u32, work: Work, time: &T, out: &mut Vec<u8>) -> Answered
-        ensures appends { Appends (steps.answers conn) (idle conn) (over conn) result.step (steps.seen self.old) out.old.items out.new.items (steps.seen self.new) }
+    /// others, or where it may take long and only brief work is wanted.
+    fn answer<T: Time>(
+        &mut self,
+        conn: u32,
+        work: Work,
+        is_brief: bool,
+        time: &T,
+        out: &mut Vec<u8>,
+    ) -> Answered
+        ensures appends { Appends (steps.answers conn) (steps.idle conn) (over conn) result.step (steps.seen self.old) out.old.items out.new.items (steps.seen self.new) }
         ensures less { result.step ≡ Step.Working → IsTrue result.has_gone_on → IsLess (steps.left conn self.old) (steps.left conn self.new) }
-        ensures waiting { result.step ≡ Step.Working → IsFalse result.has_gone_on → IsTrue (waits conn self.old || (work.is_brief && longs conn self.old)) × (self.new ≡ self.old) }
+        ensures waiting { result.step ≡ Step.Working → IsFalse result.has_gone_on → IsTrue (is_held waits longs is_brief conn self.old) × (self.new ≡ self.old) }
+        ensures none { result.step ≡ Step.Idle → steps.left conn self.new ≡ steps.left conn self.old }
         ensures others { OthersKeep steps.left conn self.old self.new };
 
     /// What is in front on a connection.
     fn front(&self, conn: u32) -> Ahead
-        ensures ahead { aheads conn self.now result }
+        ensures ahead { steps.aheads conn self.now result }
         ensures most { IsMost (steps.answers conn) (steps.seen self.now) result.most_reply }
         ensures tenant { result.tenant ≡ fronts conn self.now }
         ensures waits { result.waits ≡ waits conn self.now }

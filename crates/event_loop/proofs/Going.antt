@@ -1,5 +1,5 @@
 -- One round more, behind others.
-use Rattle.std.specs.Prelude.{◌+◌, ◌++◌, List, [], ◌∷◌, length, Bool, ℕ, Option}
+use Rattle.std.specs.Prelude.{◌+◌, ◌++◌, List, [], ◌∷◌, Bool, ℕ, Option}
 use Rattle.std.proofs.Common.{ap, length-append, refl, subst, ◌∙◌}
 use Rattle.outbox.specs.Traffic.{Traffic}
 use Rattle.connection_turns.specs.Cores.{CoreSteps}

@@ -47,10 +47,10 @@ pub leads_through : {S C T : Type 0} (s : CoreSteps C) (told : S → Option Traf
 leads_through s told waits longs all i start now end l h e = h end (subst (λ (ds : List Due). ServesEach s told waits longs ds now end) (sym (none_dropped all i l)) e)
 
 -- what follows from where nothing changed
-pub follows_then : {S C T : Type 0} {s : CoreSteps C} → JoinsSteps s → JoinsStates S C T → (told : S → Option Traffic) (key : ℕ) (result : Outcome) (a b c : Open S C T) → Stays (lanes_of s told a) (lanes_of s told b) → StatesStay a b → Follows s told key result b c → Follows s told key result a c
-follows_then j i told key outcome.Open a b c h k f = elim f [ inl d ↦ inl (j.before (LetGo key) _ _ _ h d) | inr t ↦ inr (j.twice _ _ _ h t.0, i.twice a b c k t.1) ]
-follows_then j i told key (outcome.Over how) a b c h k f = j.before (LetGo key) _ _ _ h f
-follows_then j i told key outcome.Closed a b c h k f = j.before (LetGo key) _ _ _ h f
+pub follows_then : {S C T : Type 0} {s : CoreSteps C} → JoinsSteps s → JoinsStates S C T → (told : S → Option Traffic) (key : ℕ) (result : Outcome) (a b c : Open S C T) → Stays (lanes_of s told a) (lanes_of s told b) → StatesStay a b → b.core ≡ a.core → Follows s told key result b c → Follows s told key result a c
+follows_then j i told key outcome.Open a b c h k e f = elim f [ inl d ↦ inl (j.before (LetGo key) _ _ _ h d) | inr t ↦ inr (j.twice _ _ _ h t.0, i.twice a b c k t.1, λ d. t.2 d ∙ e) ]
+follows_then j i told key (outcome.Over how) a b c h k e f = j.before (LetGo key) _ _ _ h f
+follows_then j i told key outcome.Closed a b c h k e f = j.before (LetGo key) _ _ _ h f
 
 pub unchanged : {S C T : Type 0} (s : CoreSteps C) (told : S → Option Traffic) (a b : Open S C T) → b ≡ a → Stays (lanes_of s told a) (lanes_of s told b)
 unchanged {S} {C} {T} s told a b e = subst (λ (x : Open S C T). Stays (lanes_of s told a) (lanes_of s told x)) (sym e) (stays (lanes_of s told a))

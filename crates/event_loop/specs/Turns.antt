@@ -10,23 +10,24 @@ use Rattle.connection_turns.specs.declared.ending.End.TheVariants as end
 use Rattle.due_list.specs.declared.due.Due.{Due}
 use Rattle.open_connections.specs.declared.open.Open.{Open}
 use Rattle.connection_turns.specs.Cores.{CoreSteps}
-use Rattle.open_connections.specs.Looping.{Does, DoesSome, LetGo, PassedBy, Stays}
-use Rattle.open_connections.specs.Opened.{IsPutOff, has_time, is_there, lanes_of, lost_at}
+use Rattle.open_connections.specs.Looping.{Does, DoesSome, LetGo, Stays}
+use Rattle.open_connections.specs.Opened.{IsPutOff, has_time, is_due_in, is_there, lanes_of, lost_at}
 use Rattle.due_list.specs.Rounds.{IsFresh}
-use Rattle.open_connections.specs.Turns.{GetsTurn, OthersStand, StatesStay}
+use Rattle.open_connections.specs.Turns.{GetsTurn, IsLeft, OthersStand, StatesStay}
 use Rattle.open_connections.specs.Woken.{TurnsStay}
 use Rattle.event_loop.specs.Seats.{turns_of}
 
--- What follows from a turn. One that is over is let go. One that is open stays as the turn left it, or is let go if memory is refused.
+-- What follows from a turn. One that is over is let go. One that is open stays as the turn left it, or is let go if memory is refused. If it is to have a further turn, the core has under
+-- way what it had.
 abbrev pub Follows : {S C T : Type 0} → CoreSteps C → (S → Option Traffic) → (key : ℕ) → Outcome → Open S C T → Open S C T → Type 0
-Follows s told key outcome.Open old new = Does s (LetGo key) (lanes_of s told old) (lanes_of s told new) ⊎ (Stays (lanes_of s told old) (lanes_of s told new) × StatesStay old new)
+Follows s told key outcome.Open old new = Does s (LetGo key) (lanes_of s told old) (lanes_of s told new) ⊎ (Stays (lanes_of s told old) (lanes_of s told new) × StatesStay old new × (IsTrue (is_due_in new.connections key) → new.core ≡ old.core))
 Follows s told key (outcome.Over how) old new = Does s (LetGo key) (lanes_of s told old) (lanes_of s told new)
 Follows s told key outcome.Closed old new = Does s (LetGo key) (lanes_of s told old) (lanes_of s told new)
 
 -- The connection with this key has its turn. If its peer is gone, nothing is done.
 pub record GetsTurnAt {S C T : Type 0} (s : CoreSteps C) (told : S → Option Traffic) (waits : ℕ → C → Bool) (key : ℕ) (result : Outcome) (old new : Open S C T) : Type 0 where
   pub gets : IfSome (get old.connections key) (λ c. IsFalse (is_lost c) → GetsTurn s told waits key c result old new)
-  pub lost : IsTrue (lost_at key old) → (result ≡ outcome.Over end.ReadFault) × PassedBy key (lanes_of s told old) (lanes_of s told new)
+  pub lost : IsTrue (lost_at key old) → (result ≡ outcome.Over end.ReadFault) × IsLeft s told key old new
 
 -- It has its turn, and then what follows from that. All others stay what they are.
 pub record TakesTurnAt {S C T : Type 0} (s : CoreSteps C) (told : S → Option Traffic) (waits : ℕ → C → Bool) (key : ℕ) (old new : Open S C T) : Type 0 where

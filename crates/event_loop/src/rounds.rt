@@ -524,7 +524,7 @@ impl<S: System + Drop, C: LoopCore, T: Time + Drop> Rounds<S, C, T> {
         ensures lanes { TurnsAtMost C.steps key (lanes_of C.steps S.Stream.told self.old.opened) (lanes_of C.steps S.Stream.told self.new.opened) }
         ensures others { OthersStand key self.old.opened self.new.opened }
         ensures clock { NotesMoved key self.old.opened self.new.opened self.new.seconds.counted self.new.seconds.last }
-        ensures gets { key < 2 ^ 32 → (turned : Open S.Stream C T) × GetsTurnAt C.steps S.Stream.told C.waits key result self.old.opened turned × Stays (lanes_of C.steps S.Stream.told turned) (lanes_of C.steps S.Stream.told self.new.opened) × StatesStay turned self.new.opened }
+        ensures gets { key < 2 ^ 32 → (turned : Open S.Stream C T) × GetsTurnAt C.steps S.Stream.told C.waits key result self.old.opened turned × Stays (lanes_of C.steps S.Stream.told turned) (lanes_of C.steps S.Stream.told self.new.opened) × StatesStay turned self.new.opened × (self.new.opened.core ≡ turned.core) }
         ensures there { is_open_at key self.new.opened ≡ is_open_at key self.old.opened }
         ensures woken { TakesOff key self.old.opened self.new.opened }
     {
@@ -539,6 +539,7 @@ impl<S: System + Drop, C: LoopCore, T: Time + Drop> Rounds<S, C, T> {
     fn mark_moved(&mut self, key: usize, has_moved: bool)
         ensures lanes { Stays (lanes_of C.steps S.Stream.told self.old.opened) (lanes_of C.steps S.Stream.told self.new.opened) }
         ensures ready { StatesStay self.old.opened self.new.opened }
+        ensures core { self.new.opened.core ≡ self.old.opened.core }
         ensures clock { IsTrue has_moved → IsNoted key self.new.opened self.new.seconds.counted self.new.seconds.last }
         ensures read { IsTrue has_moved → IsRead T.tells self.old.seconds.time self.old.seconds.last self.new.seconds.last }
         ensures there { is_open_at key self.new.opened ≡ is_open_at key self.old.opened }
@@ -585,6 +586,7 @@ impl<S: System + Drop, C: LoopCore, T: Time + Drop> Rounds<S, C, T> {
     fn tell_slow<J: Journal>(&mut self, journal: &mut J)
         ensures lanes { Stays (lanes_of C.steps S.Stream.told self.old.opened) (lanes_of C.steps S.Stream.told self.new.opened) }
         ensures ready { StatesStay self.old.opened self.new.opened }
+        ensures core { self.new.opened.core ≡ self.old.opened.core }
         ensures woken { StaysWoken self.old.opened self.new.opened }
     {
         if let Some(slow) = self.opened.take_slow() {

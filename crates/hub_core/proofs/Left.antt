@@ -4,11 +4,10 @@ use Rattle.std.specs.Prelude.{if◌then◌else◌}
 use Rattle.std.specs.BTreeMap.{is_at}
 use Rattle.std.specs.Ordering.{nat_cmp}
 use Rattle.std.proofs.lemmas.Bool.Decides.{nat_tests}
-use Rattle.outbox.specs.Appends.{Appends, OthersKeep}
+use Rattle.outbox.specs.Appends.{Appends, IsLess, OthersKeep}
 use Rattle.outbox.specs.declared.answers.Step.{Step}
 use Rattle.outbox.specs.declared.answers.Step.TheVariants.{Replied, Idle, Last, Refused, Working}
 use Rattle.wire_frames.specs.Framing.{Framing}
-use Rattle.connection_turns.specs.Cores.{IsLess}
 use Rattle.path_hub.specs.HubState.{HubState}
 use Rattle.path_hub.specs.Sessions.{Sessions, Sets, session}
 use Rattle.path_hub.specs.UnderWay.{Clears}
@@ -64,6 +63,15 @@ module _ (law : WorkIsLeft) (units : Option ℕ) (is_brief : Bool) (conn : ℕ) 
   kept_back Last g a w e f = absurd cc
   kept_back Idle g a w e f = absurd cc
   kept_back Refused g a w e f = absurd cc
+
+  -- where no request waits, what is left is as before
+  pub none_left : (step : Step) (has_gone_on : Bool) → Appends (Answers conn) (IsIdle conn) (is_over conn) step old.hub before after new.hub → Works step units has_gone_on is_brief conn old new
+      → step ≡ Idle → left_at conn new ≡ left_at conn old
+  none_left Idle g a w e = λ i. work_left_at conn (a.2 i) (w.1 i)
+  none_left Replied g a w e = absurd cc
+  none_left Last g a w e = absurd cc
+  none_left Refused g a w e = absurd cc
+  none_left Working g a w e = absurd cc
 
   -- what others have under way stays
   pub others_answered : (step : Step) (has_gone_on : Bool) → Appends (Answers conn) (IsIdle conn) (is_over conn) step old.hub before after new.hub → Works step units has_gone_on is_brief conn old new → OthersKeep left_at conn old new

@@ -3,3 +3,4 @@ pub mod Bounds
 pub mod Left
 pub mod Waiting
 pub mod Wires
+mod Taking

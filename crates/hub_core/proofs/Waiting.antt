@@ -13,7 +13,6 @@ use Rattle.path_hub.specs.HubState.{HubState}
 use Rattle.path_hub.specs.Into.{Takes}
 use Rattle.path_hub.specs.declared.fault.TakeFault.{TakeFault}
 use Rattle.path_hub.specs.declared.fault.TakeFault.TheVariants as fault
-use Rattle.outbox.specs.declared.answers.Step.TheVariants.{Working}
 use Rattle.hub_core.specs.InFront.{IsAhead, waiting_on}
 use Rattle.hub_core.specs.Long.{is_long_to}
 use Rattle.hub_core.specs.Needs.{IsNoPart, IsPart, front_of}

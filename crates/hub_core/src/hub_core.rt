@@ -2,8 +2,7 @@
 ghost use Rattle.std.specs.Prelude.{◌≡◌, ◌↔◌, [], OnOk, OnErr, IsErrOf, IsFalse, IsSome, IsTrue, None, is_some};
 ghost use Rattle.std.specs.Bool.{MatchBool};
 ghost use Rattle.std.specs.Option.{option_map};
-ghost use Rattle.connection_turns.specs.Cores.{IsLess};
-ghost use Rattle.outbox.specs.Appends.{Appends, OthersKeep};
+ghost use Rattle.outbox.specs.Appends.{Appends, IsLess, KeepsWork, OthersKeep};
 ghost use Rattle.path_hub.specs.Sessions.{session};
 ghost use Rattle.path_hub.specs.UnderWay.{Clears, SpendsAt, is_first_held};
 ghost use Rattle.hub_core.specs.Answering.{Opens, Closes, Answers, IsIdle, is_over, takes};
@@ -24,6 +23,7 @@ use path_hub::{Advance, ConnectFault, Hub, Tasks, work_is_left};
 use std::alloc::Global;
 use std::marker::Model;
 use tenant_map::Usage;
+use wire_frames::splits_from_the_front;
 
 /// A hub that answers one request at a time, and a query or a long put a share at a time, as a turn needs it. Its value is the hub's.
 #[derive(Drop)]
@@ -94,26 +94,29 @@ impl HubCore {
     pub fn take(&mut self, conn: u32, piece: &[u8]) -> bool
         ensures taken { MatchBool result (takes conn self.old.hub piece.now self.new.hub × (is_over conn self.new.hub ≡ is_over conn self.old.hub)) (self.new ≡ self.old) }
         ensures stays { self.new.tasks ≡ self.old.tasks }
+        ensures keeps { KeepsWork (left_at conn self.old) (left_at conn self.new) }
         ensures others { OthersKeep left_at conn self.old self.new }
     {
         work_is_left();
+        splits_from_the_front();
         self.hub.take(conn, piece).is_ok()
     }
 
     /// Appends the reply to the connection's next request, or does a share of the work on it. A query goes on for so many units before others are served, and a
-    /// text is read for five places a unit.
-    pub fn answer(&mut self, conn: u32, work: Work, out: &mut Vec<u8>) -> Answered
+    /// text is read for five places a unit. A request that may take long is not answered where only brief work is wanted.
+    pub fn answer(&mut self, conn: u32, work: Work, is_brief: bool, out: &mut Vec<u8>) -> Answered
         ensures appends { Appends (Answers conn) (IsIdle conn) (is_over conn) result.step self.old.hub out.old.items out.new.items self.new.hub }
         ensures asked { result.asked ≡ asks self.old.hub.tenants (body_at (front (waiting_on conn self.old.hub))) }
-        ensures works { Works result.step result.units result.has_gone_on work.is_brief conn self.old self.new }
+        ensures works { Works result.step result.units result.has_gone_on is_brief conn self.old self.new }
         ensures little { SpendsAt (share_of result.step result.units result.has_gone_on) conn self.old.hub self.old.tasks self.new.tasks work.units }
         ensures less { result.step ≡ Step.Working → IsTrue result.has_gone_on → IsLess (left_at conn self.old) (left_at conn self.new) }
-        ensures waiting { result.step ≡ Step.Working → IsFalse result.has_gone_on → IsTrue (is_kept_back work.is_brief conn self.old) × (self.new ≡ self.old) }
+        ensures waiting { result.step ≡ Step.Working → IsFalse result.has_gone_on → IsTrue (is_kept_back is_brief conn self.old) × (self.new ≡ self.old) }
+        ensures none { result.step ≡ Step.Idle → left_at conn self.new ≡ left_at conn self.old }
         ensures others { OthersKeep left_at conn self.old self.new }
     {
         work_is_left();
         let asked = asked_of(self.hub.tenants(), self.hub.waiting_bytes(conn));
-        let (step, units, has_gone_on) = self.step(conn, work, out);
+        let (step, units, has_gone_on) = self.step(conn, work, is_brief, out);
         Answered {
             step,
             asked,
@@ -127,12 +130,18 @@ impl HubCore {
 
     // One step: how it ended, what was charged, and whether work went on. The reply to a framing fault is the last. Nothing goes on for a connection of which no
     // further request is answered.
-    fn step(&mut self, conn: u32, work: Work, out: &mut Vec<u8>) -> (Step, Option<u64>, bool)
+    fn step(
+        &mut self,
+        conn: u32,
+        work: Work,
+        is_brief: bool,
+        out: &mut Vec<u8>,
+    ) -> (Step, Option<u64>, bool)
         ensures appends { Appends (Answers conn) (IsIdle conn) (is_over conn) result.0 self.old.hub out.old.items out.new.items self.new.hub }
-        ensures works { Works result.0 result.1 result.2 work.is_brief conn self.old self.new }
+        ensures works { Works result.0 result.1 result.2 is_brief conn self.old self.new }
         ensures little { SpendsAt (share_of result.0 result.1 result.2) conn self.old.hub self.old.tasks self.new.tasks work.units }
     {
-        if self.is_kept_back(conn, work.is_brief) {
+        if self.is_kept_back(conn, is_brief) {
             return (Step::Working, None, false);
         }
         match self

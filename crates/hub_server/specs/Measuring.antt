@@ -6,6 +6,7 @@ use Rattle.path_hub.specs.UnderWay.{is_first_held}
 use Rattle.path_hub.specs.WorkLeft.{work_left_at}
 use Rattle.path_hub.specs.declared.tasks.Tasks.{Tasks}
 use Rattle.hub_core.specs.Asking.{asks}
+use Rattle.hub_core.specs.InFront.{IsAhead}
 use Rattle.hub_core.specs.Long.{is_first_long}
 use Rattle.hub_core.specs.Answering as listen
 use Rattle.admin_pages.specs.declared.counted.Metrics.{Metrics}
@@ -88,7 +89,7 @@ is_over conn now = listen.is_over conn now.hub
 
 -- what it does at a connection, as a loop over it has it
 abbrev pub hub_steps : CoreSteps MeasuredWork
-hub_steps = record { Seen = Measured; seen = λ m. m.seen; left = λ conn m. work_left_at conn m.seen.hub m.tasks; opens = Opens; closes = Closes; takes = takes; answers = Answers }
+hub_steps = record { Seen = Measured; seen = λ m. m.seen; idle = IsIdle; left = λ conn m. work_left_at conn m.seen.hub m.tasks; aheads = λ conn m ahead. IsAhead conn m.seen.hub ahead; opens = Opens; closes = Closes; takes = takes; answers = Answers }
 
 -- whether the request in front waits for what others have under way
 abbrev pub hub_waits : ℕ → MeasuredWork → Bool

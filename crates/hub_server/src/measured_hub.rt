@@ -84,19 +84,14 @@ impl LoopCore for MeasuredHub {
     ghost use Rattle.std.specs.Option.{option_map};
     ghost use Rattle.request_replies.specs.Tenants.{map_of};
     ghost use Rattle.tenant_map.specs.Quotas.{usage_of};
-    ghost use Rattle.hub_core.specs.InFront.{IsAhead};
     ghost use Rattle.hub_core.specs.Needs.{front_at};
-    ghost use Rattle.hub_server.specs.Measuring.{IsIdle, hub_longs, hub_steps, hub_waits, is_over};
+    ghost use Rattle.hub_server.specs.Measuring.{hub_longs, hub_steps, hub_waits, is_over};
 
     ghost steps = { hub_steps };
-
-    ghost idle = { IsIdle };
 
     ghost over = { is_over };
 
     ghost counted = { λ m. m.seen.metrics };
-
-    ghost aheads = { λ conn m ahead. IsAhead conn m.seen.hub ahead };
 
     ghost fronts = { λ conn m. front_at conn m.seen.hub };
 
@@ -118,9 +113,16 @@ impl LoopCore for MeasuredHub {
         self.core.take(conn, piece)
     }
 
-    fn answer<T: Time>(&mut self, conn: u32, work: Work, time: &T, out: &mut Vec<u8>) -> Answered {
+    fn answer<T: Time>(
+        &mut self,
+        conn: u32,
+        work: Work,
+        is_brief: bool,
+        time: &T,
+        out: &mut Vec<u8>,
+    ) -> Answered {
         let before = out.as_slice().len();
-        let answered = self.core.answer(conn, work, out);
+        let answered = self.core.answer(conn, work, is_brief, out);
         match answered.step {
             Step::Replied => self.count(
                 timed(answered, work, time),

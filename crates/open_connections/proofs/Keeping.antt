@@ -1,6 +1,6 @@
 -- What stays so of each connection.
 use Rattle.std.proofs.Common.{◌≡◌, ◌≤◌, arith, length, min, ℕ, List, Bool, true, false, Option, Some, None, Result, Ok, Err, sym, ap, ◌∙◌, refl, subst}
-use Rattle.std.specs.Prelude.{◌==◌, ◌&&◌, nat_le, IfOk, IfSome, IsTrue, is_some, if◌then◌else◌}
+use Rattle.std.specs.Prelude.{◌==◌, ◌&&◌, nat_le, IfOk, IfSome, IsTrue, OnErr, is_some, if◌then◌else◌}
 use Rattle.std.specs.Option.{option_and_then, option_map}
 use Rattle.slab.specs.Slab.{Slab, get, with_value, Updates}
 use Rattle.std.proofs.lemmas.Bool.Decides.{nat_tests}
@@ -10,6 +10,7 @@ use Rattle.wire_frames.specs.declared.parts.TheConstants.{MOST_REPLY}
 use Rattle.outbox.specs.Traffic.{Traffic}
 use Rattle.connection_turns.specs.Cores.{CoreSteps, IsMost}
 use Rattle.connection_turns.specs.Held.{covers_in}
+use Rattle.connection_turns.specs.declared.ahead.Ahead.{Ahead}
 use Rattle.connection_turns.specs.Planning.{granted}
 use Rattle.connection_turns.specs.declared.claim.Need.{Need}
 use Rattle.connection_turns.specs.declared.claim.Pool.{Pool}
@@ -25,7 +26,7 @@ use Rattle.connection_turns.specs.declared.connection.Phase.{Phase}
 use Rattle.open_connections.specs.declared.open.Open.{Open}
 use Rattle.open_connections.specs.Looping.{PassedBy}
 use Rattle.open_connections.specs.Opened.{is_open_at, lanes_of}
-use Rattle.open_connections.specs.Turns.{AreCovered, IsForReply, Keep, OthersStand, StatesStay, asked_by, is_held_in, is_queued_in, number_at, standing_of}
+use Rattle.open_connections.specs.Turns.{AreCovered, IsForReply, IsShort, Keep, OthersStand, StatesStay, asked_by, is_held_in, is_queued_in, number_at, standing_of}
 use Rattle.open_connections.proofs.Steps.{everywhere, written}
 
 pub keep_same : {S A : Type 0} (of : Connection S → A) (slab : Slab (Connection S)) → Keep of slab slab
@@ -130,6 +131,13 @@ asked_covers need now budgets claim l (t, r, f) e =
 pub most_at : {C : Type 0} (answers : ℕ → C → List ℕ → C → Type 0) (conn key : ℕ) (inner core : C) (most : ℕ) → conn ≡ key → inner ≡ core → IsMost (answers conn) inner most → IsMost (answers key) core most
 most_at answers conn key inner core most n e h = rw (sym n, sym e) h
 
+-- what is in front there, which is not covered
+pub short_at : {S C T : Type 0} (s : CoreSteps C) (conn key : ℕ) (inner : C) (o : Open S C T) (ahead : Ahead) → conn ≡ key → inner ≡ o.core → s.aheads conn inner ahead → is_covered (claim_at o.connections key) ahead.most_reply ≡ false → IsShort s key o
+short_at s conn key inner o ahead n e h k = (ahead, subst (λ (m : ℕ). s.aheads m o.core ahead) n (subst (λ core. s.aheads conn core ahead) e h), k)
+
+pub short_from : {S C T : Type 0} (s : CoreSteps C) (key : ℕ) (a b : Open S C T) → b.core ≡ a.core → claim_at b.connections key ≡ claim_at a.connections key → IsShort s key b → IsShort s key a
+short_from s key a b e f (ahead, h, k) = (ahead, subst (λ core. s.aheads key core ahead) e h, subst (λ (x : Option Claim). is_covered x ahead.most_reply ≡ false) f k)
+
 -- from where nothing changed, and where its share stays
 pub covered_from : {S C T : Type 0} (s : CoreSteps C) (told : S → Option Traffic) (key : ℕ) (a b c : Open S C T) → PassedBy key (lanes_of s told a) (lanes_of s told b) → AreCovered s key b c → AreCovered s key a c
 covered_from {S} {C} s told key a b c h k = λ j reply core x. k (h.others.joined j) reply core (subst (λ (z : s.Seen). s.answers key z reply core) (sym h.core_stays) x)
@@ -162,6 +170,18 @@ some_map P Q (Some x) f h = f h
 pub ok_map : {A E : Type 0} (P Q : A → Type 0) (r : Result A E) → ((x : A) → P x → Q x) → IfOk r P → IfOk r Q
 ok_map P Q (Ok x) f h = f x h
 ok_map P Q (Err e) f h = tt
+
+pub err_map : {A E : Type 0} (P Q : Type 0) (r : Result A E) → (P → Q) → OnErr r P → OnErr r Q
+err_map P Q (Ok x) f h = tt
+err_map P Q (Err e) f h = f h
+
+pub err_always : {A E : Type 0} (P : Type 0) (r : Result A E) → P → OnErr r P
+err_always P (Ok x) h = tt
+err_always P (Err e) h = h
+
+pub ok_always : {A E : Type 0} (P : A → Type 0) (r : Result A E) → ((x : A) → P x) → IfOk r P
+ok_always P (Ok x) h = h x
+ok_always P (Err e) h = tt
 
 -- one is open just if it was, if all stay what they are
 pub open_alike : {S C T : Type 0} (key : ℕ) (a b : Open S C T) → StatesStay a b → is_open_at key b ≡ is_open_at key a

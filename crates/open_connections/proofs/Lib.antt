@@ -6,3 +6,4 @@ pub mod Turns
 pub mod Keeping
 pub mod Waking
 pub mod Woken
+mod Holding

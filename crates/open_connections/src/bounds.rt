@@ -16,17 +16,17 @@ const LONG_SHARE: u64 = 10_000;
 pub(crate) fn share_of(due: &DueList, micros: u64) -> TurnBounds
     ensures shared { result.is_shared ≡ nat_lt due.now.since_shared 16 }
     ensures units { result.work.units ≡ (if nat_lt due.now.since_shared 16 then 400 else 10000) }
-    ensures brief { result.work.is_brief ≡ (is_crowded due.now.longs && not due.now.longs.is_under_way) }
+    ensures brief { result.is_brief ≡ (is_crowded due.now.longs && not due.now.longs.is_under_way) }
     ensures micros { result.work.micros ≡ micros }
 {
     let is_shared = due.is_shared();
     TurnBounds {
         work: Work {
             units: if is_shared { SHARE } else { LONG_SHARE },
-            is_brief: due.is_brief(),
             micros,
             since: None,
         },
+        is_brief: due.is_brief(),
         is_shared,
     }
 }

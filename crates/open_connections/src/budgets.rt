@@ -1,8 +1,8 @@
 //! The budgets of memory that connections share.
-ghost use Rattle.std.specs.Prelude.{◌≡◌, ◌-◌, [], map, IfOk, OnOk, OnErr, MatchOption};
+ghost use Rattle.std.specs.Prelude.{◌≡◌, ◌-◌, [], map, option_to_list, IfOk, OnOk, OnErr, MatchOption};
 ghost use Rattle.memory_budget.specs.States.{Asks, after, is_waited_for, lowered, may_grow};
 ghost use Rattle.open_connections.specs.Joined.{ChangesAt, Comes, Holds, IsAsked, claim_asked, claim_by, place_of, shares_at, within};
-ghost use Rattle.open_connections.specs.Shares.{fresh_budgets, in_pool, left_of, limit_of, limits_in, spare_of, IsFree, IsWithin, StayFree};
+ghost use Rattle.open_connections.specs.Shares.{fresh_budgets, granted_next, in_pool, left_of, limit_of, limits_in, spare_of, IsFree, IsWithin, StayFree};
 
 use connection_turns::{Claim, Need, Pool};
 use due_list::PARTIES;
@@ -102,6 +102,7 @@ impl Budgets {
 
     /// Grants the next share, where there is room.
     pub fn next(&mut self) -> Option<Share>
+        ensures next { option_to_list result ≡ granted_next self.old }
         ensures free { StayFree self.old self.new }
         ensures limits { limits_in self.new ≡ limits_in self.old }
         ensures granted { MatchOption result (self.new ≡ self.old) (λ share. Holds share self.old self.new) }

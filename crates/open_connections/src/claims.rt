@@ -1,12 +1,12 @@
 //! What connections hold of the memory that all share: what is asked for, granted and given back.
-ghost use Rattle.std.specs.Prelude.{◌<◌, ◌≡◌, ◌^◌, length, None, Some, IfOk, IfSome, IsFalse, IsTrue, MatchOption, OnOk};
+ghost use Rattle.std.specs.Prelude.{◌<◌, ◌≡◌, ◌^◌, length, [], None, Some, IfOk, IfSome, IsFalse, IsTrue, MatchOption, OnErr, OnOk};
 ghost use Rattle.slab.specs.Slab.{get};
 ghost use Rattle.connection_turns.specs.Held.{share_after};
 ghost use Rattle.open_connections.specs.Joined.{Joined};
 ghost use Rattle.open_connections.specs.Looping.{Stays};
 ghost use Rattle.open_connections.specs.Opened.{lanes_of};
-ghost use Rattle.open_connections.specs.Shares.{StayFree, IsGivenBack, claim_at};
-ghost use Rattle.open_connections.specs.Turns.{AreCovered, ClaimsStay, HasClaim, IsCovered, IsForReply, IsQueued, StatesStay, WillCover};
+ghost use Rattle.open_connections.specs.Shares.{StayFree, IsGivenBack, claim_at, granted_next};
+ghost use Rattle.open_connections.specs.Turns.{AreCovered, ClaimsStay, HasClaim, IsCovered, IsForReply, IsQueued, IsShort, StatesStay, WillCover};
 ghost use Rattle.open_connections.specs.Woken.{StaysWoken, WakesOthers};
 
 use crate::needs::{covers, is_for_reply, is_held, need, need_of_reply};
@@ -23,8 +23,12 @@ impl<S: Peer, C: LoopCore, T: Time + Drop> Open<S, C, T> {
     pub(crate) fn may_answer(&mut self, key: usize, now: u64) -> Result<bool, AllocError>
         ensures lanes { Stays (lanes_of C.steps S.told self.old) (lanes_of C.steps S.told self.new) }
         ensures ready { StatesStay self.old self.new }
+        ensures core { self.new.core ≡ self.old.core }
+        ensures longs { self.new.due.longs ≡ self.old.due.longs }
         ensures queued { IfOk result (λ may. IsFalse may → key < 2 ^ 32 → IfSome (get self.old.connections key) (λ _. IsQueued key self.new)) }
         ensures covered { IfOk result (λ may. IsTrue may → AreCovered C.steps key self.old self.new) }
+        ensures short { IfOk result (λ may. IsFalse may → key < 2 ^ 32 → IfSome (get self.old.connections key) (λ _. IsShort C.steps key self.old)) }
+        ensures refused { OnErr result (key < 2 ^ 32 → IfSome (get self.old.connections key) (λ _. IsShort C.steps key self.old)) }
         ensures woken { WakesOthers key self.old self.new }
     {
         let Some(conn) = conn_of(key) else {
@@ -49,6 +53,8 @@ impl<S: Peer, C: LoopCore, T: Time + Drop> Open<S, C, T> {
     pub(crate) fn yield_reply(&mut self, key: usize, now: u64)
         ensures lanes { Stays (lanes_of C.steps S.told self.old) (lanes_of C.steps S.told self.new) }
         ensures ready { StatesStay self.old self.new }
+        ensures core { self.new.core ≡ self.old.core }
+        ensures longs { self.new.due.longs ≡ self.old.due.longs }
         ensures woken { WakesOthers key self.old self.new }
     {
         if is_for_reply(self.claim_of(key)) {
@@ -64,6 +70,8 @@ impl<S: Peer, C: LoopCore, T: Time + Drop> Open<S, C, T> {
     fn yield_share(&mut self, key: usize, now: u64)
         ensures lanes { Stays (lanes_of C.steps S.told self.old) (lanes_of C.steps S.told self.new) }
         ensures ready { StatesStay self.old self.new }
+        ensures core { self.new.core ≡ self.old.core }
+        ensures longs { self.new.due.longs ≡ self.old.due.longs }
         ensures given { IsGivenBack (claim_at self.old.connections key) self.new.budgets }
         ensures woken { WakesOthers key self.old self.new }
     {
@@ -75,6 +83,8 @@ impl<S: Peer, C: LoopCore, T: Time + Drop> Open<S, C, T> {
     pub(crate) fn release(&mut self, key: usize)
         ensures lanes { Stays (lanes_of C.steps S.told self.old) (lanes_of C.steps S.told self.new) }
         ensures ready { StatesStay self.old self.new }
+        ensures core { self.new.core ≡ self.old.core }
+        ensures longs { self.new.due.longs ≡ self.old.due.longs }
         ensures given { IsGivenBack (claim_at self.old.connections key) self.new.budgets }
         ensures none { claim_at self.new.connections key ≡ None }
         ensures woken { WakesOthers key self.old self.new }
@@ -99,6 +109,7 @@ impl<S: Peer, C: LoopCore, T: Time + Drop> Open<S, C, T> {
     pub(crate) fn settle_claim(&mut self, key: usize, has_answered: bool, now: u64)
         ensures lanes { Stays (lanes_of C.steps S.told self.old) (lanes_of C.steps S.told self.new) }
         ensures ready { StatesStay self.old self.new }
+        ensures core { self.new.core ≡ self.old.core }
         ensures given { IfSome (get self.old.connections key) (λ c. IfSome c.claim (λ claim. share_after claim (length c.outbox.owed) has_answered ≡ After.Released → IsGivenBack (Some claim) self.new.budgets)) }
         ensures woken { WakesOthers key self.old self.new }
     {
@@ -133,6 +144,7 @@ impl<S: Peer, C: LoopCore, T: Time + Drop> Open<S, C, T> {
     ) -> Result<(), AllocError>
         ensures lanes { Stays (lanes_of C.steps S.told self.old) (lanes_of C.steps S.told self.new) }
         ensures ready { StatesStay self.old self.new }
+        ensures core { self.new.core ≡ self.old.core }
         ensures woken { WakesOthers key self.old self.new }
     {
         let Some(connection) = self.connections.get(key) else {
@@ -148,6 +160,8 @@ impl<S: Peer, C: LoopCore, T: Time + Drop> Open<S, C, T> {
     fn claim(&mut self, key: usize, need: &Need, now: u64) -> Result<bool, AllocError>
         ensures lanes { Stays (lanes_of C.steps S.told self.old) (lanes_of C.steps S.told self.new) }
         ensures ready { StatesStay self.old self.new }
+        ensures core { self.new.core ≡ self.old.core }
+        ensures longs { self.new.due.longs ≡ self.old.due.longs }
         ensures queued { IfOk result (λ held. IsFalse held → IfSome (get self.old.connections key) (λ _. IsQueued key self.new)) }
         ensures covered { IfOk result (λ held. IsTrue held → Joined (claim_at self.old.connections) self.old.budgets → IsForReply need.now → IsCovered key need.now.bytes self.new) }
         ensures woken { WakesOthers key self.old self.new }
@@ -161,6 +175,8 @@ impl<S: Peer, C: LoopCore, T: Time + Drop> Open<S, C, T> {
     fn ask_for(&mut self, key: usize, need: &Need, now: u64) -> Result<(), AllocError>
         ensures lanes { Stays (lanes_of C.steps S.told self.old) (lanes_of C.steps S.told self.new) }
         ensures ready { StatesStay self.old self.new }
+        ensures core { self.new.core ≡ self.old.core }
+        ensures longs { self.new.due.longs ≡ self.old.due.longs }
         ensures claims { OnOk result (IfSome (get self.old.connections key) (λ _. HasClaim key self.new)) }
         ensures covers { OnOk result (Joined (claim_at self.old.connections) self.old.budgets → IsForReply need.now → WillCover key need.now.bytes self.new) }
         ensures woken { WakesOthers key self.old self.new }
@@ -179,6 +195,8 @@ impl<S: Peer, C: LoopCore, T: Time + Drop> Open<S, C, T> {
         ensures lanes { Stays (lanes_of C.steps S.told self.old) (lanes_of C.steps S.told self.new) }
         ensures free { StayFree self.old.budgets self.new.budgets }
         ensures ready { StatesStay self.old self.new }
+        ensures core { self.new.core ≡ self.old.core }
+        ensures longs { self.new.due.longs ≡ self.old.due.longs }
         ensures claims { ClaimsStay self.old self.new }
         ensures woken { StaysWoken self.old self.new }
     {
@@ -186,15 +204,18 @@ impl<S: Peer, C: LoopCore, T: Time + Drop> Open<S, C, T> {
             let Some(key) = self.grant_next(now) else {
                 return;
             };
-            self.give_turn(key);
+            self.add_turn(key);
         }
     }
 
     // Grants the next share that there is room for, and tells which connection holds it now.
     fn grant_next(&mut self, now: u64) -> Option<usize>
+        ensures none { result ≡ None → granted_next self.old.budgets ≡ [] }
         ensures lanes { Stays (lanes_of C.steps S.told self.old) (lanes_of C.steps S.told self.new) }
         ensures free { StayFree self.old.budgets self.new.budgets }
         ensures ready { StatesStay self.old self.new }
+        ensures core { self.new.core ≡ self.old.core }
+        ensures longs { self.new.due.longs ≡ self.old.due.longs }
         ensures claims { ClaimsStay self.old self.new }
         ensures woken { MatchOption result (StaysWoken self.old self.new) (λ key. WakesOthers key self.old self.new) }
     {

@@ -1,8 +1,8 @@
 //! What a connection needs of the budgets before its next step.
-ghost use Rattle.std.specs.Prelude.{◌≡◌, ◌<◌, ◌≤◌, IfSome, IsFalse, IsTrue, is_some};
-ghost use Rattle.std.specs.Option.{option_and_then};
+ghost use Rattle.std.specs.Prelude.{◌≡◌, ◌<◌, ◌≤◌, length, IsFalse, IsTrue, is_some};
 ghost use Rattle.due_list.specs.Rounds.{party_of};
-ghost use Rattle.open_connections.specs.Shares.{IsOfFront, is_covered};
+ghost use Rattle.outbox.specs.Lines as lines;
+ghost use Rattle.open_connections.specs.Shares.{is_covered, needed, needed_for};
 ghost use Rattle.open_connections.specs.Turns.{is_held_in, is_queued_in};
 
 use crate::open::PIECE;
@@ -83,7 +83,7 @@ pub(crate) fn need_of_reply(front: &Ahead) -> Need
 
 /// What a connection without a share needs beside a reply, where this is in front and not to be answered.
 pub(crate) fn need<S: Peer>(connection: &Connection<S>, front: Option<Ahead>) -> Option<Need>
-    ensures { IfSome result (λ need. need.purpose ≡ Purpose.Frame → IsOfFront (option_and_then (λ ahead. ahead.tenant) front) need.pool need.party) }
+    ensures { result ≡ needed (length connection.now.outbox.owed) (lines.reads connection.now.outbox) connection.now.tenant front }
 {
     let owed = connection.outbox.owed().len();
     if owed > OWED {
@@ -102,7 +102,7 @@ pub(crate) fn need<S: Peer>(connection: &Connection<S>, front: Option<Ahead>) ->
 
 // The share of a frame that came in part.
 fn need_of_frame(front: &Ahead) -> Option<Need>
-    ensures { IfSome result (λ need. IsOfFront front.now.tenant need.pool need.party × (need.purpose ≡ Purpose.Frame)) }
+    ensures { result ≡ needed_for front.now.tenant front.now.part }
 {
     let part = front.part?;
     if part.length <= ALLOWANCE {

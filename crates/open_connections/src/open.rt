@@ -1,17 +1,18 @@
 //! The connections that are open, the core that answers them, and the memory that they share.
-ghost use Rattle.std.specs.Prelude.{Bool, ◌≡◌, ◌<◌, ◌-◌, ◌^◌, ◌++◌, ◌&&◌, [], ℕ, None, IfOk, OnOk, IfSome, IsTrue, IsFalse};
+ghost use Rattle.std.specs.Prelude.{Bool, nat_lt, ◌≡◌, ◌<◌, ◌-◌, ◌^◌, ◌++◌, ◌&&◌, [], ℕ, None, IfOk, OnErr, OnOk, IfSome, IsTrue, IsFalse};
 ghost use Rattle.std.specs.Option.{option_map};
 ghost use Rattle.slab.specs.Slab.{get, slab_len};
 ghost use Rattle.open_connections.specs.Looping.{Stays, Does, DoesAtMost, PassedBy, TurnsAtMost, TakenIn, LetGo};
 ghost use Rattle.std.specs.Bool.{MatchBool};
 ghost use Rattle.outbox.specs.Traffic.{IsUnused};
 ghost use Rattle.connection_turns.specs.Owed.{is_lost};
+ghost use Rattle.connection_turns.specs.Turning.{is_answering};
 ghost use Rattle.due_list.specs.Long.{begun, is_crowded};
 ghost use Rattle.due_list.specs.Rounds.{IsFresh, after_turn, party_of};
 ghost use Rattle.open_connections.specs.Opened.{lanes_of, bytes_of, expiry_at, has_time, is_long, is_there, is_open_at, owes_much, IsMarked, IsPutOff, IsStanding, IsListed, IsAsDue, is_due_in, HasLeft, lost_at, rests_at, tenant_at};
 ghost use Rattle.open_connections.specs.Joined.{Joined};
 ghost use Rattle.open_connections.specs.Shares.{fresh_budgets, left_of, limit_of, IsWithin, IsGivenBack, claim_at};
-ghost use Rattle.open_connections.specs.Turns.{AreCovered, ClaimsStay, GetsTurn, HasTurnBy, OthersStand, Prepares, StatesStay, is_answering, plan_at};
+ghost use Rattle.open_connections.specs.Turns.{AreCovered, ClaimsStay, GetsTurn, HasTurnBy, IsLeft, IsShort, OthersStand, Prepares, StatesStay, held_at, plan_at};
 ghost use Rattle.open_connections.specs.Woken.{Hands, IsWoken, Passes, Recalls, StaysWoken, TakesOff, TurnsStay, Wakes, WakesOthers, is_awake};
 
 use crate::bounds::share_of;
@@ -119,6 +120,7 @@ impl<S: Peer, C: LoopCore, T: Time + Drop> Open<S, C, T> {
     pub fn take_slow(&mut self) -> Option<Slow>
         ensures lanes { Stays (lanes_of C.steps S.told self.old) (lanes_of C.steps S.told self.new) }
         ensures ready { StatesStay self.old self.new }
+        ensures core { self.new.core ≡ self.old.core }
         ensures woken { StaysWoken self.old self.new }
     {
         self.core.take_slow()
@@ -263,11 +265,11 @@ impl<S: Peer, C: LoopCore, T: Time + Drop> Open<S, C, T> {
     }
 
     /// Whether a connection gets its turn in this round. Where the turns of its tenant took long in it, it is put off. So is one that asks what may take long,
-    /// while others do.
+    /// while others do. The connection itself is not looked at where its tenant has no time left, so that passing over many is quick.
     pub fn has_time(&self, due: Due) -> bool
         ensures { result ≡ has_time C.longs due self.now }
     {
-        self.due.has_time(due, self.is_long(due.key))
+        self.due.has_span(due) && self.due.has_time(due, self.is_long(due.key))
     }
 
     // Whether a turn of a connection may take long. It is looked at only where turns took long lately, or where the connection has a share of memory.
@@ -339,7 +341,7 @@ impl<S: Peer, C: LoopCore, T: Time + Drop> Open<S, C, T> {
         ensures others { OthersStand key self.old self.new }
         ensures bytes { IsFalse result.1 → bytes_of self.new ≡ bytes_of self.old }
         ensures lost { IsTrue (lost_at key self.old) → result.0 ≡ Outcome.Over End.ReadFault }
-        ensures idle { IsTrue (lost_at key self.old) → PassedBy key (lanes_of C.steps S.told self.old) (lanes_of C.steps S.told self.new) }
+        ensures idle { IsTrue (lost_at key self.old) → IsLeft C.steps S.told key self.old self.new }
         ensures given { IfSome (get self.old.connections key) (λ c. key < 2 ^ 32 → IsFalse (is_lost c) → GetsTurn C.steps S.told C.waits key c result.0 self.old self.new) }
         ensures there { is_open_at key self.new ≡ is_open_at key self.old }
         ensures woken { TakesOff key self.old self.new }
@@ -358,6 +360,7 @@ impl<S: Peer, C: LoopCore, T: Time + Drop> Open<S, C, T> {
     fn take_off(&mut self, key: usize)
         ensures lanes { PassedBy key (lanes_of C.steps S.told self.old) (lanes_of C.steps S.told self.new) }
         ensures ready { StatesStay self.old self.new }
+        ensures core { self.new.core ≡ self.old.core }
         ensures there { is_open_at key self.new ≡ is_open_at key self.old }
         ensures woken { TakesOff key self.old self.new }
     {
@@ -370,8 +373,11 @@ impl<S: Peer, C: LoopCore, T: Time + Drop> Open<S, C, T> {
     fn prepare(&mut self, key: usize, now: u64) -> Result<TurnPlan, Outcome>
         ensures lanes { PassedBy key (lanes_of C.steps S.told self.old) (lanes_of C.steps S.told self.new) }
         ensures ready { StatesStay self.old self.new }
+        ensures core { self.new.core ≡ self.old.core }
         ensures plan { IfSome (get self.old.connections key) (λ c. key < 2 ^ 32 → Prepares C.waits key (plan_at c self.old) result self.old self.new) }
         ensures covered { IfOk result (λ plan. plan ≡ TurnPlan.Answer → AreCovered C.steps key self.old self.new) }
+        ensures short { OnErr result (key < 2 ^ 32 → IfSome (get self.old.connections key) (λ _. IsShort C.steps key self.old)) }
+        ensures held { IfOk result (λ plan. IsTrue (is_answering plan) → key < 2 ^ 32 → IfSome (get self.old.connections key) (λ _. IsFalse (held_at C.waits C.longs key self.new))) }
         ensures woken { TakesOff key self.old self.new }
     {
         let Some(plan) = self.plan(key) else {
@@ -391,8 +397,11 @@ impl<S: Peer, C: LoopCore, T: Time + Drop> Open<S, C, T> {
     fn prepare_answer(&mut self, key: usize, now: u64) -> Result<TurnPlan, Outcome>
         ensures lanes { Stays (lanes_of C.steps S.told self.old) (lanes_of C.steps S.told self.new) }
         ensures ready { StatesStay self.old self.new }
+        ensures core { self.new.core ≡ self.old.core }
+        ensures longs { self.new.due.longs ≡ self.old.due.longs }
         ensures plan { IfSome (get self.old.connections key) (λ _. key < 2 ^ 32 → Prepares C.waits key TurnPlan.Answer result self.old self.new) }
         ensures covered { IfOk result (λ _. AreCovered C.steps key self.old self.new) }
+        ensures short { OnErr result (key < 2 ^ 32 → IfSome (get self.old.connections key) (λ _. IsShort C.steps key self.old)) }
         ensures woken { WakesOthers key self.old self.new }
     {
         match self.may_answer(key, now) {
@@ -407,6 +416,7 @@ impl<S: Peer, C: LoopCore, T: Time + Drop> Open<S, C, T> {
         ensures lanes { PassedBy key (lanes_of C.steps S.told self.old) (lanes_of C.steps S.told self.new) }
         ensures ready { StatesStay self.old self.new }
         ensures plan { result ≡ option_map (λ c. plan_at c self.old) (get self.old.connections key) }
+        ensures claim { claim_at self.new.connections key ≡ claim_at self.old.connections key }
         ensures core { self.new.core ≡ self.old.core }
         ensures begun { IfSome (get self.old.connections key) (λ c. self.new.due.longs ≡ begun (party_of c.tenant) (is_long C.longs key self.old) self.old.due.longs) }
         ensures woken { TakesOff key self.old self.new }
@@ -425,7 +435,7 @@ impl<S: Peer, C: LoopCore, T: Time + Drop> Open<S, C, T> {
 
     // Whether a turn would answer a request that waits for a query of its tenant, which another connection has under way.
     fn stands_by(&self, key: usize, plan: TurnPlan) -> bool
-        ensures { IsTrue result → IsTrue (is_answering plan && C.waits key self.now.core) }
+        ensures { result ≡ (nat_lt key (2 ^ 32) && (is_answering plan && C.waits key self.now.core)) }
     {
         match conn_of(key) {
             Some(conn) => {
@@ -441,7 +451,7 @@ impl<S: Peer, C: LoopCore, T: Time + Drop> Open<S, C, T> {
         ensures lanes { TurnsAtMost C.steps key (lanes_of C.steps S.told self.old) (lanes_of C.steps S.told self.new) }
         ensures others { OthersStand key self.old self.new }
         ensures bytes { IsFalse result.1 → bytes_of self.new ≡ bytes_of self.old }
-        ensures given { IfSome (get self.old.connections key) (λ c. key < 2 ^ 32 → HasTurnBy C.steps S.told plan key c result.0 self.old self.new) }
+        ensures given { IfSome (get self.old.connections key) (λ c. key < 2 ^ 32 → HasTurnBy C.steps S.told plan (held_at C.waits C.longs key self.old) key c result.0 self.old self.new) }
         ensures claim { claim_at self.new.connections key ≡ claim_at self.old.connections key }
         ensures there { is_open_at key self.new ≡ is_open_at key self.old }
         ensures woken { WakesOthers key self.old self.new }
@@ -476,6 +486,7 @@ impl<S: Peer, C: LoopCore, T: Time + Drop> Open<S, C, T> {
     pub fn mark_moved(&mut self, key: usize, now: u64)
         ensures lanes { Stays (lanes_of C.steps S.told self.old) (lanes_of C.steps S.told self.new) }
         ensures ready { StatesStay self.old self.new }
+        ensures core { self.new.core ≡ self.old.core }
         ensures marked { IsMarked self.new key now }
         ensures there { is_open_at key self.new ≡ is_open_at key self.old }
         ensures woken { StaysWoken self.old self.new }
@@ -491,6 +502,7 @@ impl<S: Peer, C: LoopCore, T: Time + Drop> Open<S, C, T> {
     pub fn settle(&mut self, key: usize, now: u64) -> Result<(), AllocError>
         ensures lanes { Stays (lanes_of C.steps S.told self.old) (lanes_of C.steps S.told self.new) }
         ensures ready { StatesStay self.old self.new }
+        ensures works { OnOk result (IsTrue (is_due_in self.new.connections key) → self.new.core ≡ self.old.core) }
         ensures standing { OnOk result (IsStanding key self.new) }
         ensures awake { OnOk result (IsTrue (is_awake key self.new)) }
         ensures woken { OnOk result (Wakes key self.old self.new) }
@@ -505,6 +517,7 @@ impl<S: Peer, C: LoopCore, T: Time + Drop> Open<S, C, T> {
     fn settle_memory(&mut self, key: usize, now: u64) -> Result<(), AllocError>
         ensures lanes { Stays (lanes_of C.steps S.told self.old) (lanes_of C.steps S.told self.new) }
         ensures ready { StatesStay self.old self.new }
+        ensures core { self.new.core ≡ self.old.core }
         ensures woken { WakesOthers key self.old self.new }
     {
         let Some(conn) = conn_of(key) else {
@@ -533,6 +546,7 @@ impl<S: Peer, C: LoopCore, T: Time + Drop> Open<S, C, T> {
     fn note_part(&mut self, key: usize, front: Option<Ahead>)
         ensures lanes { Stays (lanes_of C.steps S.told self.old) (lanes_of C.steps S.told self.new) }
         ensures ready { StatesStay self.old self.new }
+        ensures core { self.new.core ≡ self.old.core }
         ensures woken { WakesOthers key self.old self.new }
     {
         if let Some(connection) = self.connections.get_mut(key) {
@@ -544,6 +558,7 @@ impl<S: Peer, C: LoopCore, T: Time + Drop> Open<S, C, T> {
     fn count_turn(&mut self, key: usize, now: u64)
         ensures lanes { Stays (lanes_of C.steps S.told self.old) (lanes_of C.steps S.told self.new) }
         ensures ready { StatesStay self.old self.new }
+        ensures core { self.new.core ≡ self.old.core }
         ensures times { IfSome (get self.new.connections key) (λ c. (micros : ℕ) × ((has_worked : Bool) × (self.new.due.micros ≡ after_turn self.old.due.micros (party_of (tenant_at key self.old)) (party_of c.tenant) micros (c.is_working && has_worked)))) }
         ensures woken { WakesOthers key self.old self.new }
     {
@@ -570,6 +585,7 @@ impl<S: Peer, C: LoopCore, T: Time + Drop> Open<S, C, T> {
     fn note_turn(&mut self, key: usize)
         ensures lanes { Stays (lanes_of C.steps S.told self.old) (lanes_of C.steps S.told self.new) }
         ensures ready { StatesStay self.old self.new }
+        ensures core { self.new.core ≡ self.old.core }
         ensures due { self.new.due ≡ self.old.due }
         ensures woken { WakesOthers key self.old self.new }
     {
@@ -588,6 +604,7 @@ impl<S: Peer, C: LoopCore, T: Time + Drop> Open<S, C, T> {
     fn renew(&mut self, key: usize, now: u64)
         ensures lanes { Stays (lanes_of C.steps S.told self.old) (lanes_of C.steps S.told self.new) }
         ensures ready { StatesStay self.old self.new }
+        ensures core { self.new.core ≡ self.old.core }
         ensures due { self.new.due ≡ self.old.due }
         ensures woken { WakesOthers key self.old self.new }
     {
@@ -601,14 +618,35 @@ impl<S: Peer, C: LoopCore, T: Time + Drop> Open<S, C, T> {
         }
     }
 
-    // A connection that can go on gets a further turn. One that can't has no query under way: so nobody waits for one that waits. Where there is no memory
-    // for the turn, the connection is looked at again before the next round.
-    pub(crate) fn give_turn(&mut self, key: usize)
+    // A connection that can go on gets a further turn. One that gets none has no query under way: so nobody waits for one that waits.
+    fn give_turn(&mut self, key: usize)
         ensures lanes { Stays (lanes_of C.steps S.told self.old) (lanes_of C.steps S.told self.new) }
+        ensures works { IsTrue (is_due_in self.new.connections key) → self.new.core ≡ self.old.core }
         ensures budgets { self.new.budgets ≡ self.old.budgets }
         ensures standing { IsStanding key self.new }
         ensures listed { IsListed key self.old self.new }
-        ensures once { IfSome (get self.old.connections key) (λ c. IsTrue c.is_due → self.new.due ≡ self.old.due) }
+        ensures once { IsTrue (is_due_in self.old.connections key) → self.new.due ≡ self.old.due }
+        ensures ready { StatesStay self.old self.new }
+        ensures claims { ClaimsStay self.old self.new }
+        ensures awake { IsTrue (is_awake key self.new) }
+        ensures bound { self.new.bound ≡ self.old.bound }
+        ensures woken { Wakes key self.old self.new }
+    {
+        if !self.add_turn(key) {
+            self.give_up_query(key);
+        }
+    }
+
+    // A connection that can go on gets a further turn, and nothing is given up. Whether it has one. Where there is no memory for the turn, the connection
+    // is looked at again before the next round.
+    pub(crate) fn add_turn(&mut self, key: usize) -> bool
+        ensures lanes { Stays (lanes_of C.steps S.told self.old) (lanes_of C.steps S.told self.new) }
+        ensures due { result ≡ is_due_in self.new.connections key }
+        ensures core { self.new.core ≡ self.old.core }
+        ensures longs { self.new.due.longs ≡ self.old.due.longs }
+        ensures budgets { self.new.budgets ≡ self.old.budgets }
+        ensures listed { IsListed key self.old self.new }
+        ensures once { IsTrue (is_due_in self.old.connections key) → IsTrue result × (self.new.due ≡ self.old.due) }
         ensures ready { StatesStay self.old self.new }
         ensures claims { ClaimsStay self.old self.new }
         ensures awake { IsTrue (is_awake key self.new) }
@@ -617,21 +655,23 @@ impl<S: Peer, C: LoopCore, T: Time + Drop> Open<S, C, T> {
     {
         let has_room = self.budgets.has_room(ROOM);
         let Some(connection) = self.connections.get_mut(key) else {
-            return;
+            return false;
         };
         if connection.is_due {
-            return;
+            return true;
         }
         if !connection.can_go_on(has_room) {
-            self.give_up_query(key);
-            return;
+            return false;
         }
         let (tenant, is_working) = (connection.tenant, connection.is_working);
         match self.due.add(key, connection.number, tenant, is_working) {
-            Ok(()) => connection.is_due = true,
+            Ok(()) => {
+                connection.is_due = true;
+                true
+            }
             Err(_) => {
                 self.has_missed = true;
-                self.give_up_query(key);
+                false
             }
         }
     }

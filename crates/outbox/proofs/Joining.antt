@@ -3,11 +3,12 @@ use Rattle.std.proofs.Common.{◌≡◌, ℕ, ◌+◌, ◌≤◌, List, [], ◌�
 use Rattle.std.specs.Prelude.{Option, Some, None, ◌||◌, ◌&&◌, not, ◌⊎◌}
 use Rattle.std.proofs.lemmas.Bool.{cases_Bool}
 use Rattle.outbox.specs.Lines.{Line, Event, after, run, gathered, read_at, sent_at, read, sent, reads}
+use Rattle.outbox.specs.Appends.{IsLess, KeepsWork}
 use Rattle.outbox.specs.Traffic.{Traffic, moved}
-use Rattle.outbox.specs.Turns.{Turned, Moment, DoesAll, moves, moves_at, HasFallen, HasNotRisen, count_of, pieces_at, answers_at, most_requests, can_write, can_read, can_answer, can_reply, can_go_on}
+use Rattle.outbox.specs.Turns.{Turned, Moment, DoesAll, moves, moves_at, HasFallen, HasNotRisen, count_of, pieces_at, answers_at, settles_at, most_requests, can_write, can_read, can_answer, can_reply, can_go_on}
 use Rattle.outbox.specs.declared.readiness.Readiness.{Readiness}
 
-run-append : (line : Line) (es fs : List Event) → run line (es ++ fs) ≡ run (run line es) fs
+pub run-append : (line : Line) (es fs : List Event) → run line (es ++ fs) ≡ run (run line es) fs
 run-append line [] fs = refl
 run-append line (e ∷ es) fs = run-append (after line e) es fs
 
@@ -23,11 +24,11 @@ moves-append : (line : Line) (es fs : List Event) → moves line (es ++ fs) ≡ 
 moves-append line [] fs = refl
 moves-append line (e ∷ es) fs = ap (λ (b : Bool). moves_at line e || b) (moves-append (after line e) es fs) ∙ or_assoc (moves_at line e) (moves (after line e) es) (moves (run (after line e) es) fs)
 
-count-append : (at : Event → ℕ) (es fs : List Event) → count_of at (es ++ fs) ≡ count_of at es + count_of at fs
+pub count-append : (at : Event → ℕ) (es fs : List Event) → count_of at (es ++ fs) ≡ count_of at es + count_of at fs
 count-append at [] fs = omega arith
 count-append at (e ∷ es) fs = let i : count_of at (es ++ fs) ≡ count_of at es + count_of at fs = count-append at es fs in omega (arith, i)
 
-does_both : {C : Type 0} (T R : C → List ℕ → C → Type 0) (line : Line) (es fs : List Event) (a b c : C) → DoesAll T R line es a b → DoesAll T R (run line es) fs b c → DoesAll T R line (es ++ fs) a c
+pub does_both : {C : Type 0} (T R : C → List ℕ → C → Type 0) (line : Line) (es fs : List Event) (a b c : C) → DoesAll T R line es a b → DoesAll T R (run line es) fs b c → DoesAll T R line (es ++ fs) a c
 does_both {C} T R line [] fs a b c h k = subst (λ (x : C). DoesAll T R line fs x c) h k
 does_both {C} T R line (e ∷ es) fs a b c h k = (h.0, h.1, does_both T R (after line e) es fs h.0 b c h.2 k)
 
@@ -90,6 +91,17 @@ any_of_four false false true false = refl
 any_of_four false false false true = refl
 any_of_four false false false false = refl
 
+pub less_twice : (a b c : Option ℕ) → IsLess a b → IsLess b c → IsLess a c
+less_twice a b None h k = k
+less_twice None b (Some c) h k = record {}
+less_twice (Some a) None (Some c) h k = absurd h
+less_twice (Some a) (Some b) (Some c) h k = omega (arith, h, k)
+
+keeps_twice : (a b c : Option ℕ) → KeepsWork a b → KeepsWork b c → KeepsWork a c
+keeps_twice a b c (inl e) k = subst (λ (x : Option ℕ). KeepsWork x c) e k
+keeps_twice a b c (inr h) (inl e) = inr (subst (λ (x : Option ℕ). IsLess a x) (sym e) h)
+keeps_twice a b c (inr h) (inr k) = inr (less_twice a b c h k)
+
 -- one or the other may be done
 abbrev pub either : (Readiness → Line → Bool) → (Readiness → Line → Bool) → Readiness → Line → Bool
 either p q ready line = p ready line || q ready line
@@ -126,6 +138,7 @@ both {C} m n m' n' T R I O p q a b c x y = record {
       y.stays (ap (λ (m : Moment C). q m.ready m.line) (x.stays f.0) ∙ f.1) ∙ x.stays f.0;
   told = λ h. y.told (x.told h);
   ended = λ h. y.ended (x.ended h);
+  works = λ h. (let e = count-append settles_at x.events y.events in keeps_twice a.left b.left c.left (x.works (omega (arith, e, h))) (y.works (omega (arith, e, h))));
 }
 
 -- a turn, where it could go on under another name
@@ -142,6 +155,7 @@ renamed m n T R I O p q a b e x = record {
   stays = λ h. x.stays (e ∙ h);
   told = x.told;
   ended = x.ended;
+  works = x.works;
 }
 
 -- a turn with more that it may have read and written
@@ -158,6 +172,7 @@ loosened m n m' n' T R I O p a b h k x = record {
   stays = x.stays;
   told = x.told;
   ended = x.ended;
+  works = x.works;
 }
 
 -- one request more

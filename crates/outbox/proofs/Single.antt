@@ -5,15 +5,15 @@ use Rattle.std.proofs.lemmas.List.{append-nil, length-take-le}
 use Rattle.std.proofs.lemmas.Bool.{cases_Bool, lt-ltb, MatchBool-at_true, MatchBool-at_false}
 use Rattle.outbox.specs.Lines.{Line, Event, Readable, Declined, Answered, Writable, Ends, Fails, Worked, after, is_open, ended as ended_stage, owes, reads, cap, read_at, sent_at}
 use Rattle.outbox.specs.Traffic.{Traffic, moved, with_read, with_written}
-use Rattle.outbox.specs.Turns.{Turned, Moment, here, DoesAt, moves_at, pieces_at, answers_at, HasFallen, HasNotRisen, IsTold, IsEnded, WritesOnce, Flushes, can_write, can_read, can_answer}
-use Rattle.outbox.specs.Appends.{with_reply}
+use Rattle.outbox.specs.Turns.{Turned, Moment, here, DoesAt, moves_at, pieces_at, answers_at, settles_at, HasFallen, HasNotRisen, IsTold, IsEnded, WritesOnce, Flushes, can_write, can_read, can_answer}
+use Rattle.outbox.specs.Appends.{with_reply, KeepsWork}
 use Rattle.outbox.proofs.Joining.{both, either, renamed, true_or, or_true}
 use Rattle.outbox.specs.declared.readiness.Readiness.{Readiness}
 use Rattle.outbox.specs.declared.stage.Stage.{Stage}
 use Rattle.outbox.specs.declared.stage.Stage.TheVariants.{Open, Ending, Broken}
 
 -- an ended line is not open
-closed : (s : Stage) → is_open (ended_stage s) ≡ false
+pub closed : (s : Stage) → is_open (ended_stage s) ≡ false
 closed Open = refl
 closed Ending = refl
 closed Broken = refl
@@ -46,7 +46,7 @@ pub not_true : (b : Bool) → not b ≡ true → b ≡ false
 not_true true h = absurd cc
 not_true false h = refl
 
-clash : {X : Type 0} (b : Bool) → b ≡ true → b ≡ false → X
+pub clash : {X : Type 0} (b : Bool) → b ≡ true → b ≡ false → X
 clash true h k = absurd cc
 clash false h k = absurd cc
 
@@ -57,8 +57,8 @@ picked false x y h = absurd cc
 -- one event that moves something
 pub one : {C : Type 0} (m n : ℕ) (T R : C → List ℕ → C → Type 0) (I : C → Type 0) (O : C → Bool) (can : Readiness → Line → Bool) (a b : Moment C) (e : Event)
     → b.line ≡ after a.line e → b.wire ≡ moved (read_at a.line e ++ []) (sent_at a.line e ++ []) a.wire → DoesAt T R a.line e a.core b.core
-    → moves_at a.line e ≡ true → can a.ready a.line ≡ true → (IsTold I a → IsTold I b) → (IsEnded O a → IsEnded O b) → pieces_at e ≤ m → answers_at e ≤ n → Turned m n T R I O can a b
-one m n T R I O can a b e line wire does moves could told ends few some = record {
+    → moves_at a.line e ≡ true → can a.ready a.line ≡ true → (IsTold I a → IsTold I b) → (IsEnded O a → IsEnded O b) → pieces_at e ≤ m → answers_at e ≤ n → (settles_at e ≡ 0 → KeepsWork a.left b.left) → Turned m n T R I O can a b
+one m n T R I O can a b e line wire does moves could told ends few some keeps = record {
   events = e ∷ [];
   line_is = line;
   wire_is = wire;
@@ -70,12 +70,13 @@ one m n T R I O can a b e line wire does moves could told ends few some = record
   stays = λ h. clash (can a.ready a.line) could h;
   told = told;
   ended = ends;
+  works = λ h. keeps (omega (arith, h));
 }
 
 -- something turned out to want a wait
-pub fallen : {C : Type 0} (m n : ℕ) (T R : C → List ℕ → C → Type 0) (I : C → Type 0) (O : C → Bool) (can : Readiness → Line → Bool) (l : Line) (w : Option Traffic) (c : C) (r r' : Readiness)
-    → HasFallen r r' → HasNotRisen r r' → can r l ≡ true → (IsTold I (here l w c r) → IsTold I (here l w c r')) → Turned m n T R I O can (here l w c r) (here l w c r')
-fallen m n T R I O can l w c r r' f down could told = record {
+pub fallen : {C : Type 0} (m n : ℕ) (T R : C → List ℕ → C → Type 0) (I : C → Type 0) (O : C → Bool) (can : Readiness → Line → Bool) (l : Line) (w : Option Traffic) (c : C) (u : Option ℕ) (r r' : Readiness)
+    → HasFallen r r' → HasNotRisen r r' → can r l ≡ true → (IsTold I (here l w c u r) → IsTold I (here l w c u r')) → Turned m n T R I O can (here l w c u r) (here l w c u r')
+fallen m n T R I O can l w c u r r' f down could told = record {
   events = [];
   line_is = refl;
   wire_is = moved_none w;
@@ -87,6 +88,7 @@ fallen m n T R I O can l w c r r' f down could told = record {
   stays = λ h. clash (can r l) could h;
   told = told;
   ended = λ h. h;
+  works = λ h. inl refl;
 }
 
 -- nothing could be done
@@ -103,28 +105,29 @@ nothing m n T R I O can a not' = record {
   stays = λ h. refl;
   told = λ h. h;
   ended = λ h. h;
+  works = λ h. inl refl;
 }
 
 -- ---- A write
 
-pub written : {C : Type 0} (T R : C → List ℕ → C → Type 0) (I : C → Type 0) (O : C → Bool) (l l' : Line) (w w' : Option Traffic) (r r' : Readiness) (c : C)
-    → can_write r l ≡ true → WritesOnce l w r l' w' r' → Turned 0 0 T R I O can_write (here l w c r) (here l' w' c r')
-written T R I O l l' w w' r r' c can (inl x) = one 0 0 T R I O can_write (here l w c r) (here l' w' c r') (Writable x.0) x.2
+pub written : {C : Type 0} (T R : C → List ℕ → C → Type 0) (I : C → Type 0) (O : C → Bool) (l l' : Line) (w w' : Option Traffic) (r r' : Readiness) (c : C) (u : Option ℕ)
+    → can_write r l ≡ true → WritesOnce l w r l' w' r' → Turned 0 0 T R I O can_write (here l w c u r) (here l' w' c u r')
+written T R I O l l' w w' r r' c u can (inl x) = one 0 0 T R I O can_write (here l w c u r) (here l' w' c u r') (Writable x.0) x.2
     (x.3 ∙ moved_written w (take x.0 l.owed)) refl (both_true (nat_lt 0 x.0) (owes l) (lt-ltb 0 x.0 x.1) (right_true r.writable (owes l) can)) can
-    (λ h e. h (ap (λ (s : Readiness). s.waiting) (sym x.4) ∙ e)) (λ h o. ap (λ (y : Line). is_open y.stage) x.2 ∙ h o) (omega arith) (omega arith)
-written T R I O l l' w w' r r' c can (inr (inl x)) = rw (x.0, x.1, x.2) (fallen 0 0 T R I O can_write l w c r (record r { writable = false })
+    (λ h e. h (ap (λ (s : Readiness). s.waiting) (sym x.4) ∙ e)) (λ h o. ap (λ (y : Line). is_open y.stage) x.2 ∙ h o) (omega arith) (omega arith) (λ h. inl refl)
+written T R I O l l' w w' r r' c u can (inr (inl x)) = rw (x.0, x.1, x.2) (fallen 0 0 T R I O can_write l w c u r (record r { writable = false })
     (inr (inl (left_true r.writable (owes l) can, refl))) (record { readable = λ e. e; writable = λ e. refl; waiting = λ e. e }) can (λ h. h))
-written T R I O l l' w w' r r' c can (inr (inr x)) = one 0 0 T R I O can_write (here l w c r) (here l' w' c r') Fails x.0
+written T R I O l l' w w' r r' c u can (inr (inr x)) = one 0 0 T R I O can_write (here l w c u r) (here l' w' c u r') Fails x.0
     (x.1 ∙ moved_none w) refl (or_true (is_open l.stage) (owes l) (right_true r.writable (owes l) can)) can
-    (λ h e. h (ap (λ (s : Readiness). s.waiting) (sym x.2) ∙ e)) (λ h o. ap (λ (y : Line). is_open y.stage) x.0) (omega arith) (omega arith)
+    (λ h e. h (ap (λ (s : Readiness). s.waiting) (sym x.2) ∙ e)) (λ h o. ap (λ (y : Line). is_open y.stage) x.0) (omega arith) (omega arith) (λ h. inl refl)
 
-pub flushed : {C : Type 0} (T R : C → List ℕ → C → Type 0) (I : C → Type 0) (O : C → Bool) (l l' : Line) (w w' : Option Traffic) (r r' : Readiness) (c : C)
-    → Flushes l w r l' w' r' → Turned 0 0 T R I O can_write (here l w c r) (here l' w' c r')
-flushed T R I O l l' w w' r r' c h = elim (cases_Bool (can_write r l)) [
-  | inl e ↦ written T R I O l l' w w' r r' c e (MatchBool-at_true (WritesOnce l w r l' w' r') ((l' ≡ l) × (w' ≡ w) × (r' ≡ r)) e h)
+pub flushed : {C : Type 0} (T R : C → List ℕ → C → Type 0) (I : C → Type 0) (O : C → Bool) (l l' : Line) (w w' : Option Traffic) (r r' : Readiness) (c : C) (u : Option ℕ)
+    → Flushes l w r l' w' r' → Turned 0 0 T R I O can_write (here l w c u r) (here l' w' c u r')
+flushed T R I O l l' w w' r r' c u h = elim (cases_Bool (can_write r l)) [
+  | inl e ↦ written T R I O l l' w w' r r' c u e (MatchBool-at_true (WritesOnce l w r l' w' r') ((l' ≡ l) × (w' ≡ w) × (r' ≡ r)) e h)
   | inr e ↦
       let same : (l' ≡ l) × (w' ≡ w) × (r' ≡ r) = MatchBool-at_false (WritesOnce l w r l' w' r') ((l' ≡ l) × (w' ≡ w) × (r' ≡ r)) e h in
-      rw (same.0, same.1, same.2) (nothing 0 0 T R I O can_write (here l w c r) e)
+      rw (same.0, same.1, same.2) (nothing 0 0 T R I O can_write (here l w c u r) e)
 ]
 
 -- ---- A read
@@ -132,38 +135,38 @@ flushed T R I O l l' w w' r r' c h = elim (cases_Bool (can_write r l)) [
 pub some_taken : (n : ℕ) (bytes : List ℕ) → n ≤ length bytes → 0 < n → 0 < length (take n bytes)
 some_taken n bytes within some = rw (length-take-le n bytes within) some
 
-pub took : {C : Type 0} (T R : C → List ℕ → C → Type 0) (I : C → Type 0) (O : C → Bool) (l : Line) (w w' : Option Traffic) (r : Readiness) (c c' : C) (piece : List ℕ)
-    → can_read r l ≡ true → 0 < length piece → w' ≡ with_read piece w → T c piece c' × (O c' ≡ O c) → Turned 1 0 T R I O can_read (here l w c r) (here l w' c' (record r { waiting = true }))
-took T R I O l w w' r c c' piece can some k t =
+pub took : {C : Type 0} (T R : C → List ℕ → C → Type 0) (I : C → Type 0) (O : C → Bool) (l : Line) (w w' : Option Traffic) (r : Readiness) (c c' : C) (u u' : Option ℕ) (piece : List ℕ)
+    → can_read r l ≡ true → 0 < length piece → w' ≡ with_read piece w → T c piece c' × (O c' ≡ O c) → KeepsWork u u' → Turned 1 0 T R I O can_read (here l w c u r) (here l w' c' u' (record r { waiting = true }))
+took T R I O l w w' r c c' u u' piece can some k t keeps =
     let open' : reads l ≡ true = right_true (r.readable && not r.waiting) (reads l) can in
-    one 1 0 T R I O can_read (here l w c r) (here l w' c' (record r { waiting = true })) (Readable piece) refl
+    one 1 0 T R I O can_read (here l w c u r) (here l w' c' u' (record r { waiting = true })) (Readable piece) refl
     (k ∙ moved_read w piece ∙ ap (λ (xs : List ℕ). moved (xs ++ []) [] w) (sym (picked (reads l) piece [] open')))
-    (open', t.0) (lt-ltb 0 (length piece) some) can (λ h e. absurd cc) (λ h o. h (sym t.1 ∙ o)) (omega arith) (omega arith)
+    (open', t.0) (lt-ltb 0 (length piece) some) can (λ h e. absurd cc) (λ h o. h (sym t.1 ∙ o)) (omega arith) (omega arith) (λ h. keeps)
 
-pub declined : {C : Type 0} (T R : C → List ℕ → C → Type 0) (I : C → Type 0) (O : C → Bool) (l l' : Line) (w w' : Option Traffic) (r : Readiness) (c c' : C) (piece : List ℕ)
-    → can_read r l ≡ true → l' ≡ after l Ends → w' ≡ with_read piece w → c' ≡ c → Turned 1 0 T R I O can_read (here l w c r) (here l' w' c' r)
-declined T R I O l l' w w' r c c' piece can line k same =
+pub declined : {C : Type 0} (T R : C → List ℕ → C → Type 0) (I : C → Type 0) (O : C → Bool) (l l' : Line) (w w' : Option Traffic) (r : Readiness) (c c' : C) (u u' : Option ℕ) (piece : List ℕ)
+    → can_read r l ≡ true → l' ≡ after l Ends → w' ≡ with_read piece w → c' ≡ c → u' ≡ u → Turned 1 0 T R I O can_read (here l w c u r) (here l' w' c' u' r)
+declined T R I O l l' w w' r c c' u u' piece can line k same kept =
     let open' : reads l ≡ true = right_true (r.readable && not r.waiting) (reads l) can in
-    one 1 0 T R I O can_read (here l w c r) (here l' w' c' r) (Declined piece) line
+    one 1 0 T R I O can_read (here l w c u r) (here l' w' c' u' r) (Declined piece) line
     (k ∙ moved_read w piece ∙ ap (λ (xs : List ℕ). moved (xs ++ []) [] w) (sym (picked (reads l) piece [] open')))
-    (open', same) (left_true (is_open l.stage) (nat_lt (length l.owed) cap) open') can (λ h e. subst I (sym same) (h e)) (λ h o. ap (λ (x : Line). is_open x.stage) line ∙ closed l.stage) (omega arith) (omega arith)
+    (open', same) (left_true (is_open l.stage) (nat_lt (length l.owed) cap) open') can (λ h e. subst I (sym same) (h e)) (λ h o. ap (λ (x : Line). is_open x.stage) line ∙ closed l.stage) (omega arith) (omega arith) (λ h. inl kept)
 
-pub ended_now : {C : Type 0} (T R : C → List ℕ → C → Type 0) (I : C → Type 0) (O : C → Bool) (l l' : Line) (w w' : Option Traffic) (r : Readiness) (c : C)
-    → can_read r l ≡ true → l' ≡ after l Ends → w' ≡ w → Turned 1 0 T R I O can_read (here l w c r) (here l' w' c r)
-ended_now T R I O l l' w w' r c can line k =
+pub ended_now : {C : Type 0} (T R : C → List ℕ → C → Type 0) (I : C → Type 0) (O : C → Bool) (l l' : Line) (w w' : Option Traffic) (r : Readiness) (c : C) (u : Option ℕ)
+    → can_read r l ≡ true → l' ≡ after l Ends → w' ≡ w → Turned 1 0 T R I O can_read (here l w c u r) (here l' w' c u r)
+ended_now T R I O l l' w w' r c u can line k =
     let open' : reads l ≡ true = right_true (r.readable && not r.waiting) (reads l) can in
-    one 1 0 T R I O can_read (here l w c r) (here l' w' c r) Ends line (k ∙ moved_none w) refl (left_true (is_open l.stage) (nat_lt (length l.owed) cap) open') can (λ h. h) (λ h o. ap (λ (x : Line). is_open x.stage) line ∙ closed l.stage) (omega arith) (omega arith)
+    one 1 0 T R I O can_read (here l w c u r) (here l' w' c u r) Ends line (k ∙ moved_none w) refl (left_true (is_open l.stage) (nat_lt (length l.owed) cap) open') can (λ h. h) (λ h o. ap (λ (x : Line). is_open x.stage) line ∙ closed l.stage) (omega arith) (omega arith) (λ h. inl refl)
 
-pub failed_now : {C : Type 0} (T R : C → List ℕ → C → Type 0) (I : C → Type 0) (O : C → Bool) (l l' : Line) (w w' : Option Traffic) (r : Readiness) (c : C)
-    → can_read r l ≡ true → l' ≡ after l Fails → w' ≡ w → Turned 1 0 T R I O can_read (here l w c r) (here l' w' c r)
-failed_now T R I O l l' w w' r c can line k =
+pub failed_now : {C : Type 0} (T R : C → List ℕ → C → Type 0) (I : C → Type 0) (O : C → Bool) (l l' : Line) (w w' : Option Traffic) (r : Readiness) (c : C) (u : Option ℕ)
+    → can_read r l ≡ true → l' ≡ after l Fails → w' ≡ w → Turned 1 0 T R I O can_read (here l w c u r) (here l' w' c u r)
+failed_now T R I O l l' w w' r c u can line k =
     let open' : reads l ≡ true = right_true (r.readable && not r.waiting) (reads l) can in
-    one 1 0 T R I O can_read (here l w c r) (here l' w' c r) Fails line (k ∙ moved_none w) refl
-    (true_or (is_open l.stage) (owes l) (left_true (is_open l.stage) (nat_lt (length l.owed) cap) open')) can (λ h. h) (λ h o. ap (λ (x : Line). is_open x.stage) line) (omega arith) (omega arith)
+    one 1 0 T R I O can_read (here l w c u r) (here l' w' c u r) Fails line (k ∙ moved_none w) refl
+    (true_or (is_open l.stage) (owes l) (left_true (is_open l.stage) (nat_lt (length l.owed) cap) open')) can (λ h. h) (λ h o. ap (λ (x : Line). is_open x.stage) line) (omega arith) (omega arith) (λ h. inl refl)
 
-pub blocked_now : {C : Type 0} (T R : C → List ℕ → C → Type 0) (I : C → Type 0) (O : C → Bool) (l : Line) (w w' : Option Traffic) (r : Readiness) (c : C)
-    → can_read r l ≡ true → w' ≡ w → Turned 1 0 T R I O can_read (here l w c r) (here l w' c (record r { readable = false }))
-blocked_now T R I O l w w' r c can k = rw k (fallen 1 0 T R I O can_read l w c r (record r { readable = false })
+pub blocked_now : {C : Type 0} (T R : C → List ℕ → C → Type 0) (I : C → Type 0) (O : C → Bool) (l : Line) (w w' : Option Traffic) (r : Readiness) (c : C) (u : Option ℕ)
+    → can_read r l ≡ true → w' ≡ w → Turned 1 0 T R I O can_read (here l w c u r) (here l w' c u (record r { readable = false }))
+blocked_now T R I O l w w' r c u can k = rw k (fallen 1 0 T R I O can_read l w c u r (record r { readable = false })
     (inl (left_true r.readable (not r.waiting) (left_true (r.readable && not r.waiting) (reads l) can), refl))
     (record { readable = λ e. refl; writable = λ e. e; waiting = λ e. e }) can (λ h. h))
 
@@ -172,30 +175,30 @@ blocked_now T R I O l w w' r c can k = rw k (fallen 1 0 T R I O can_read l w c r
 waits : {X : Type 0} (r : Readiness) (l : Line) → can_answer r l ≡ true → r.waiting ≡ false → X
 waits r l can e = clash r.waiting (left_true r.waiting (reads l) can) e
 
-pub replied_one : {C : Type 0} (T R : C → List ℕ → C → Type 0) (I : C → Type 0) (O : C → Bool) (l l' : Line) (w : Option Traffic) (r : Readiness) (c c' : C) (reply : List ℕ)
-    → can_answer r l ≡ true → l' ≡ with_reply l reply → R c reply c' → O c' ≡ false → Turned 0 1 T R I O can_answer (here l w c r) (here l' w c' r)
-replied_one T R I O l l' w r c c' reply can line t goes =
+pub replied_one : {C : Type 0} (T R : C → List ℕ → C → Type 0) (I : C → Type 0) (O : C → Bool) (l l' : Line) (w : Option Traffic) (r : Readiness) (c c' : C) (u u' : Option ℕ) (reply : List ℕ)
+    → can_answer r l ≡ true → l' ≡ with_reply l reply → R c reply c' → O c' ≡ false → Turned 0 1 T R I O can_answer (here l w c u r) (here l' w c' u' r)
+replied_one T R I O l l' w r c c' u u' reply can line t goes =
     let open' : reads l ≡ true = right_true r.waiting (reads l) can in
-    one 0 1 T R I O can_answer (here l w c r) (here l' w c' r) (Answered reply)
+    one 0 1 T R I O can_answer (here l w c u r) (here l' w c' u' r) (Answered reply)
     (line ∙ sym (picked (reads l) (with_reply l reply) l open')) (moved_none w) (open', t) refl can
-    (λ h e. waits r l can e) (λ h o. clash (O c') o goes) (omega arith) (omega arith)
+    (λ h e. waits r l can e) (λ h o. clash (O c') o goes) (omega arith) (omega arith) (λ h. absurd (omega (arith, h)))
 
-pub worked_one : {C : Type 0} (T R : C → List ℕ → C → Type 0) (I : C → Type 0) (O : C → Bool) (l l' : Line) (w : Option Traffic) (r : Readiness) (c c' : C)
-    → can_answer r l ≡ true → l' ≡ l → c' ≡ c → Turned 0 1 T R I O can_answer (here l w c r) (here l' w c' r)
-worked_one T R I O l l' w r c c' can line same = one 0 1 T R I O can_answer (here l w c r) (here l' w c' r) Worked line (moved_none w) same refl can
-    (λ h e. waits r l can e) (λ h o. ap (λ (x : Line). is_open x.stage) line ∙ h (ap O (sym same) ∙ o)) (omega arith) (omega arith)
+pub worked_one : {C : Type 0} (T R : C → List ℕ → C → Type 0) (I : C → Type 0) (O : C → Bool) (l l' : Line) (w : Option Traffic) (r : Readiness) (c c' : C) (u u' : Option ℕ)
+    → can_answer r l ≡ true → l' ≡ l → c' ≡ c → KeepsWork u u' → Turned 0 1 T R I O can_answer (here l w c u r) (here l' w c' u' r)
+worked_one T R I O l l' w r c c' u u' can line same keeps = one 0 1 T R I O can_answer (here l w c u r) (here l' w c' u' r) Worked line (moved_none w) same refl can
+    (λ h e. waits r l can e) (λ h o. ap (λ (x : Line). is_open x.stage) line ∙ h (ap O (sym same) ∙ o)) (omega arith) (omega arith) (λ h. keeps)
 
-pub idle_one : {C : Type 0} (T R : C → List ℕ → C → Type 0) (I : C → Type 0) (O : C → Bool) (l l' : Line) (w : Option Traffic) (r : Readiness) (c c' : C)
-    → can_answer r l ≡ true → I c → l' ≡ l → c' ≡ c → Turned 0 1 T R I O can_answer (here l w c r) (here l' w c' (record r { waiting = false }))
-idle_one T R I O l l' w r c c' can none line same = rw (line, same) (fallen 0 1 T R I O can_answer l w c r (record r { waiting = false })
+pub idle_one : {C : Type 0} (T R : C → List ℕ → C → Type 0) (I : C → Type 0) (O : C → Bool) (l l' : Line) (w : Option Traffic) (r : Readiness) (c c' : C) (u u' : Option ℕ)
+    → can_answer r l ≡ true → I c → l' ≡ l → c' ≡ c → u' ≡ u → Turned 0 1 T R I O can_answer (here l w c u r) (here l' w c' u' (record r { waiting = false }))
+idle_one T R I O l l' w r c c' u u' can none line same kept = rw (line, same, kept) (fallen 0 1 T R I O can_answer l w c u r (record r { waiting = false })
     (inr (inr (left_true r.waiting (reads l) can, refl))) (record { readable = λ e. e; writable = λ e. e; waiting = λ e. refl }) can (λ h e. none))
 
-pub refused_one : {C : Type 0} (T R : C → List ℕ → C → Type 0) (I : C → Type 0) (O : C → Bool) (l m l' : Line) (w : Option Traffic) (r : Readiness) (c c' : C)
-    → can_answer r l ≡ true → m ≡ l → l' ≡ after m Ends → c' ≡ c → Turned 0 1 T R I O can_answer (here l w c r) (here l' w c' r)
-refused_one T R I O l m l' w r c c' can mid line same =
+pub refused_one : {C : Type 0} (T R : C → List ℕ → C → Type 0) (I : C → Type 0) (O : C → Bool) (l m l' : Line) (w : Option Traffic) (r : Readiness) (c c' : C) (u u' : Option ℕ)
+    → can_answer r l ≡ true → m ≡ l → l' ≡ after m Ends → c' ≡ c → Turned 0 1 T R I O can_answer (here l w c u r) (here l' w c' u' r)
+refused_one T R I O l m l' w r c c' u u' can mid line same =
     let open' : reads l ≡ true = right_true r.waiting (reads l) can in
-    one 0 1 T R I O can_answer (here l w c r) (here l' w c' r) Ends (line ∙ ap (λ (x : Line). after x Ends) mid) (moved_none w) same
-    (left_true (is_open l.stage) (nat_lt (length l.owed) cap) open') can (λ h e. waits r l can e) (λ h o. ap (λ (x : Line). is_open x.stage) line ∙ closed m.stage) (omega arith) (omega arith)
+    one 0 1 T R I O can_answer (here l w c u r) (here l' w c' u' r) Ends (line ∙ ap (λ (x : Line). after x Ends) mid) (moved_none w) same
+    (left_true (is_open l.stage) (nat_lt (length l.owed) cap) open') can (λ h e. waits r l can e) (λ h o. ap (λ (x : Line). is_open x.stage) line ∙ closed m.stage) (omega arith) (omega arith) (λ h. absurd (omega (arith, h)))
 
 abbrev can_end : Readiness → Line → Bool
 can_end r l = is_open l.stage
@@ -222,14 +225,15 @@ with_end m n T R I O can a b done x = record {
   stays = x.stays;
   told = x.told;
   ended = λ h o. done;
+  works = x.works;
 }
 
-pub last_one : {C : Type 0} (T R : C → List ℕ → C → Type 0) (I : C → Type 0) (O : C → Bool) (l m l' : Line) (w : Option Traffic) (r : Readiness) (c c' : C) (reply : List ℕ)
-    → can_answer r l ≡ true → m ≡ with_reply l reply → R c reply c' → l' ≡ after m Ends → Turned 0 1 T R I O can_answer (here l w c r) (here l' w c' r)
-last_one T R I O l m l' w r c c' reply can mid t line =
+pub last_one : {C : Type 0} (T R : C → List ℕ → C → Type 0) (I : C → Type 0) (O : C → Bool) (l m l' : Line) (w : Option Traffic) (r : Readiness) (c c' : C) (u u' : Option ℕ) (reply : List ℕ)
+    → can_answer r l ≡ true → m ≡ with_reply l reply → R c reply c' → l' ≡ after m Ends → Turned 0 1 T R I O can_answer (here l w c u r) (here l' w c' u' r)
+last_one T R I O l m l' w r c c' u u' reply can mid t line =
     let open' : is_open m.stage ≡ true = ap (λ (x : Line). is_open x.stage) mid ∙ left_true (is_open l.stage) (nat_lt (length l.owed) cap) (right_true r.waiting (reads l) can) in
-    with_end 0 1 T R I O can_answer (here l w c r) (here l' w c' r) (ap (λ (x : Line). is_open x.stage) line ∙ closed m.stage)
-    (renamed 0 1 T R I goes_on (either can_answer can_end) can_answer (here l w c r) (here l' w c' r) (or_same (can_answer r l) (can_end r l) can)
-    (both 0 1 0 0 T R I goes_on can_answer can_end (here l w c r) (here m w c' r) (here l' w c' r)
-    (replied_one T R I goes_on l m w r c c' reply can mid t refl)
-    (one 0 0 T R I goes_on can_end (here m w c' r) (here l' w c' r) Ends line (moved_none w) refl open' open' (λ h. h) (λ h o. absurd cc) (omega arith) (omega arith))))
+    with_end 0 1 T R I O can_answer (here l w c u r) (here l' w c' u' r) (ap (λ (x : Line). is_open x.stage) line ∙ closed m.stage)
+    (renamed 0 1 T R I goes_on (either can_answer can_end) can_answer (here l w c u r) (here l' w c' u' r) (or_same (can_answer r l) (can_end r l) can)
+    (both 0 1 0 0 T R I goes_on can_answer can_end (here l w c u r) (here m w c' u' r) (here l' w c' u' r)
+    (replied_one T R I goes_on l m w r c c' u u' reply can mid t refl)
+    (one 0 0 T R I goes_on can_end (here m w c' u' r) (here l' w c' u' r) Ends line (moved_none w) refl open' open' (λ h. h) (λ h o. absurd cc) (omega arith) (omega arith) (λ h. inl refl))))

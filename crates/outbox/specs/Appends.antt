@@ -1,5 +1,5 @@
 -- How the next request is answered: this project's own.
-use Rattle.std.specs.Prelude.{◌≡◌, ◌≢◌, ℕ, List, ◌++◌, Bool, true, false, Option}
+use Rattle.std.specs.Prelude.{◌≡◌, ◌≢◌, ◌⊎◌, ◌<◌, ℕ, List, ◌++◌, Bool, true, false, IsFalse, Option, Some, None}
 use Rattle.outbox.specs.Lines.{Line}
 use Rattle.outbox.specs.declared.answers.Step.{Step}
 use Rattle.outbox.specs.declared.answers.Step.TheVariants.{Replied, Idle, Last, Refused, Working}
@@ -30,3 +30,25 @@ Owes answers idle over step old before after new = Steps answers idle over with_
 -- what other connections have under way stays as it is
 abbrev pub OthersKeep : {C : Type 0} → (ℕ → C → Option ℕ) → (conn : ℕ) → C → C → Type 0
 OthersKeep left conn old new = (q : ℕ) → q ≢ conn → left q new ≡ left q old
+
+-- work is under way, and where it was before, less of it is left
+abbrev pub IsLess : (old new : Option ℕ) → Type 0
+IsLess old None = ⊥
+IsLess None (Some new) = Unit {0}
+IsLess (Some old) (Some new) = new < old
+
+-- what is under way stays as it is, or less of it is left
+abbrev pub KeepsWork : (old new : Option ℕ) → Type 0
+KeepsWork old new = (new ≡ old) ⊎ IsLess old new
+
+-- a share of work leaves less, unless the request is held
+abbrev pub Shares : (is_held : Bool) → (old new : Option ℕ) → Type 0
+Shares is_held old new = KeepsWork old new × (IsFalse is_held → IsLess old new)
+
+-- what a connection has under way behind a step: where no request waits it is as before
+abbrev pub Works : Step → (is_held : Bool) → (old new : Option ℕ) → Type 0
+Works Replied is_held old new = Unit {0}
+Works Idle is_held old new = new ≡ old
+Works Last is_held old new = Unit {0}
+Works Refused is_held old new = Unit {0}
+Works Working is_held old new = Shares is_held old new

@@ -2,6 +2,7 @@
 use Rattle.std.specs.Prelude.{◌≡◌, ◌⊎◌, ℕ, ◌+◌, ◌<◌, ◌≤◌, List, [], ◌∷◌, length, take, nat_lt, Option, Bool, true, false, not, ◌&&◌, ◌||◌}
 use Rattle.std.specs.Bool.{MatchBool}
 use Rattle.outbox.specs.declared.readiness.Readiness.{Readiness}
+use Rattle.outbox.specs.Appends.{KeepsWork, IsLess}
 use Rattle.outbox.specs.Lines.{Line, Event, Readable, Declined, Answered, Writable, Ends, Fails, Worked, after, run, read, sent, reads, owes, is_open}
 use Rattle.outbox.specs.Traffic.{Traffic, moved, with_written}
 
@@ -59,15 +60,16 @@ pub record HasNotRisen (old new : Readiness) : Type 0 where
   pub writable : old.writable ≡ false → new.writable ≡ false
   pub waiting : old.waiting ≡ false → new.waiting ≡ false
 
--- all of it at one moment
+-- all of it at one moment, and what the core has under way for the connection
 pub record Moment (C : Type 0) : Type 0 where
   pub line : Line
   pub wire : Option Traffic
   pub core : C
+  pub left : Option ℕ
   pub ready : Readiness
 
-abbrev pub here : {C : Type 0} → Line → Option Traffic → C → Readiness → Moment C
-here line wire core ready = record { line = line; wire = wire; core = core; ready = ready }
+abbrev pub here : {C : Type 0} → Line → Option Traffic → C → Option ℕ → Readiness → Moment C
+here line wire core left ready = record { line = line; wire = wire; core = core; left = left; ready = ready }
 
 -- where no request is said to wait, none does
 abbrev pub IsTold : {C : Type 0} → (C → Type 0) → Moment C → Type 0
@@ -96,6 +98,25 @@ answers_at Ends = 0
 answers_at Fails = 0
 answers_at Worked = 1
 
+-- the replies and the ends, behind which what was under way may be gone
+abbrev pub settles_at : Event → ℕ
+settles_at (Readable piece) = 0
+settles_at (Declined piece) = 0
+settles_at (Answered reply) = 1
+settles_at (Writable room) = 0
+settles_at Ends = 1
+settles_at Fails = 0
+settles_at Worked = 0
+
+abbrev pub replies_at : Event → ℕ
+replies_at (Readable piece) = 0
+replies_at (Declined piece) = 0
+replies_at (Answered reply) = 1
+replies_at (Writable room) = 0
+replies_at Ends = 0
+replies_at Fails = 0
+replies_at Worked = 0
+
 abbrev pub count_of : (Event → ℕ) → List Event → ℕ
 count_of at [] = 0
 count_of at (e ∷ es) = at e + count_of at es
@@ -104,7 +125,7 @@ count_of at (e ∷ es) = at e + count_of at es
 abbrev pub most_requests : ℕ
 most_requests = 64
 
--- These events happened: to the line, on the wire, and to the core, with so many pieces and requests at most. Where it could go on, something moved or turned out to want a wait; where it could not, nothing changed.
+-- These events happened: to the line, on the wire, and to the core, with so many pieces and requests at most. Where it could go on, something moved or turned out to want a wait; where it could not, nothing changed. What is under way stays or falls, unless a reply was given or the line ended.
 pub record Turned {C : Type 0} (most_pieces most_answers : ℕ) (takes answers : C → List ℕ → C → Type 0) (idle : C → Type 0) (over : C → Bool) (can : Readiness → Line → Bool) (old new : Moment C) : Type 0 where
   pub events : List Event
   pub line_is : new.line ≡ run old.line events
@@ -117,6 +138,22 @@ pub record Turned {C : Type 0} (most_pieces most_answers : ℕ) (takes answers :
   pub stays : can old.ready old.line ≡ false → new ≡ old
   pub told : IsTold idle old → IsTold idle new
   pub ended : IsEnded over old → IsEnded over new
+  pub works : count_of settles_at events ≡ 0 → KeepsWork old.left new.left
+
+-- A reply was given among what happened.
+pub record GivesSome {C : Type 0} (takes answers : C → List ℕ → C → Type 0) (line : Line) (core : C) (line' : Line) (core' : C) : Type 0 where
+  pub events : List Event
+  pub line_is : line' ≡ run line events
+  pub core_is : DoesAll takes answers line events core core'
+  pub some : 0 < count_of replies_at events
+
+-- A reply was given, no request waits, the line is closed, or so much is left of what is under way.
+abbrev pub GoesOn : {C : Type 0} → (work : Option ℕ → Option ℕ → Type 0) → (takes answers : C → List ℕ → C → Type 0) → (old new : Moment C) → Type 0
+GoesOn work takes answers old new = GivesSome takes answers old.line old.core new.line new.core ⊎ ((new.ready.waiting ≡ false) ⊎ ((is_open new.line.stage ≡ false) ⊎ work old.left new.left))
+
+-- A request came nearer to its reply.
+abbrev pub Advances : {C : Type 0} → (takes answers : C → List ℕ → C → Type 0) → (old new : Moment C) → Type 0
+Advances takes answers old new = GoesOn IsLess takes answers old new
 
 -- One write: some bytes went out, or there is no room, or a fault came.
 abbrev pub WritesOnce : Line → Option Traffic → Readiness → Line → Option Traffic → Readiness → Type 0

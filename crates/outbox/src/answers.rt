@@ -1,7 +1,7 @@
 //! The server behind the connections.
 ghost use Rattle.std.specs.Prelude.{◌≡◌, ℕ, List, Bool, Option};
 ghost use Rattle.std.specs.Bool.{MatchBool};
-ghost use Rattle.outbox.specs.Appends.{Appends, OthersKeep};
+ghost use Rattle.outbox.specs.Appends.{Appends, KeepsWork, OthersKeep, Works};
 
 /// The outcome of [`Core::answer_next`].
 #[derive(Clone, Copy, Debug, PartialEq, Eq)]
@@ -41,14 +41,20 @@ pub trait Core {
     /// How much is left of the work that a connection has under way.
     ghost left: { ℕ → Self → Option ℕ };
 
+    /// A connection's request is not gone on with now, where only brief work is wanted or where it is any.
+    ghost holds: { Bool → ℕ → Self → Bool };
+
     /// Takes a piece, which is not empty. `false` if it declines the piece and changes nothing.
     fn take(&mut self, conn: u32, piece: &[u8]) -> bool
         ensures taken { MatchBool result (takes conn (seen self.old) piece.now (seen self.new) × (over conn (seen self.new) ≡ over conn (seen self.old))) (self.new ≡ self.old) }
+        ensures works { KeepsWork (left conn self.old) (left conn self.new) }
         ensures others { OthersKeep left conn self.old self.new };
 
-    /// Appends the reply to the connection's next request.
-    fn answer_next(&mut self, conn: u32, out: &mut Vec<u8>) -> Step
+    /// Appends the reply to the connection's next request, or does a share of the work on it: none that may take long where only brief work
+    /// is wanted.
+    fn answer_next(&mut self, conn: u32, is_brief: bool, out: &mut Vec<u8>) -> Step
         ensures appends { Appends (answers conn) (idle conn) (over conn) result (seen self.old) out.old.items out.new.items (seen self.new) }
+        ensures works { Works result (holds is_brief conn self.old) (left conn self.old) (left conn self.new) }
         ensures others { OthersKeep left conn self.old self.new };
 
     /// Whether the turn ends although requests may wait, for instance because it took long.

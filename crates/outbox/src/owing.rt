@@ -105,12 +105,13 @@ impl Outbox {
     }
 
     /// Has the next request answered, and appends its reply to the bytes owed.
-    pub fn answer_next<C: Core>(&mut self, core: &mut C, conn: u32) -> Step
+    pub fn answer_next<C: Core>(&mut self, core: &mut C, conn: u32, is_brief: bool) -> Step
         ensures owes { appends.Owes (C.answers conn) (C.idle conn) (C.over conn) result (C.seen core.old) self.old self.new (C.seen core.new) }
+        ensures works { appends.Works result (C.holds is_brief conn core.old) (C.left conn core.old) (C.left conn core.new) }
         ensures others { appends.OthersKeep C.left conn core.old core.new }
     {
         self.shift();
-        let step = core.answer_next(conn, &mut self.bytes);
+        let step = core.answer_next(conn, is_brief, &mut self.bytes);
         self.fit();
         step
     }

@@ -3,7 +3,7 @@ use Rattle.connection_turns.proofs.Progress.{answered, progressed}
 use Rattle.connection_turns.proofs.connection.Connection.answer.Goals as goal
 
 pub returns-clause-turn : goal.returns-clause-turn
-returns-clause-turn g c = answered _ _ _ _ (progressed _ _ _ _ _ _ _ _ _ c.reply.ensures.turned)
+returns-clause-turn g c = answered _ _ _ _ _ (progressed _ _ _ _ _ _ _ _ _ c.reply.ensures.turned)
 
 pub returns-clause-owed : goal.returns-clause-owed
 returns-clause-owed g c =

@@ -20,7 +20,7 @@ pub returns-in-Ok-clause-others : goal.returns-in-Ok-clause-others
 returns-in-Ok-clause-others g c = c.states_join.ensures.others c.args.key _ _ (c.states_join.ensures.twice c.args.self.now.opened c.tell_slow.new.self.opened c.settle.new.self c.tell_slow.ensures.ready c.settle.ensures.ready)
 
 pub returns-in-Ok-clause-follows : goal.returns-in-Ok-clause-follows
-returns-in-Ok-clause-follows g c = λ o k. inr (c.steps_join.ensures.twice _ _ _ c.tell_slow.ensures.lanes c.settle.ensures.lanes, c.states_join.ensures.twice c.args.self.now.opened c.tell_slow.new.self.opened c.settle.new.self c.tell_slow.ensures.ready c.settle.ensures.ready)
+returns-in-Ok-clause-follows g c = λ o k. inr (c.steps_join.ensures.twice _ _ _ c.tell_slow.ensures.lanes c.settle.ensures.lanes, c.states_join.ensures.twice c.args.self.now.opened c.tell_slow.new.self.opened c.settle.new.self c.tell_slow.ensures.ready c.settle.ensures.ready, λ d. c.in-Ok.ensures.works d ∙ c.tell_slow.ensures.core)
 
 pub returns-in-Err-clause-others : goal.returns-in-Err-clause-others
 returns-in-Err-clause-others g c = c.states_join.ensures.apart c.args.key _ _ _ (c.states_join.ensures.others c.args.key _ _ (c.states_join.ensures.twice c.args.self.now.opened c.tell_slow.new.self.opened c.settle.new.self c.tell_slow.ensures.ready c.settle.ensures.ready)) c.finish.ensures.others

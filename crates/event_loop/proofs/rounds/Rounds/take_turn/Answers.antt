@@ -11,6 +11,6 @@ returns-clause-takes g c = λ o k. let t = c.turn-outcome.ensures.gets k in reco
   turned = t.0;
   result = c.turn-outcome.result;
   turn = t.1;
-  follows = follows_then c.steps_join.ensures c.states_join.ensures g.S.Stream.Wire.told c.args.key _ _ _ _ t.2 t.3 (c.follow.ensures.follows (c.turn-outcome.ensures.there ∙ o) k);
+  follows = follows_then c.steps_join.ensures c.states_join.ensures g.S.Stream.Wire.told c.args.key _ _ _ _ t.2 t.3 t.4 (c.follow.ensures.follows (c.turn-outcome.ensures.there ∙ o) k);
   others = c.states_join.ensures.apart c.args.key _ _ _ c.turn-outcome.ensures.others c.follow.ensures.others;
 }

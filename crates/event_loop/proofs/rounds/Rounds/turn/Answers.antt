@@ -30,6 +30,7 @@ returns-clause-gets g c = λ k. (
   },
   c.mark_moved.ensures.lanes,
   c.mark_moved.ensures.ready,
+  c.mark_moved.ensures.core,
 )
 
 pub returns-clause-others : goal.returns-clause-others

@@ -1,4 +1,7 @@
-use Rattle.std.proofs.Common.{ℕ, ap, ◌∙◌}
+use Rattle.std.proofs.Common.{ℕ, List, ap, ◌∙◌}
+use Rattle.memory_budget.specs.States.{Next, grants}
+use Rattle.memory_budget.specs.declared.share.Share.{Share}
+use Rattle.open_connections.specs.Shares.{or_else}
 use Rattle.open_connections.proofs.Shares.{granted, granted_within, held_tenants, next_strangers, stay}
 use Rattle.open_connections.proofs.budgets.Budgets.next.Goals as goal
 
@@ -19,3 +22,9 @@ returns-in-Some-clause-granted c = held_tenants c.by_ticket.ensures.granted c.ke
 
 pub returns-in-None-clause-granted : goal.returns-in-None-clause-granted
 returns-in-None-clause-granted c = next_strangers c.by_ticket.ensures.granted c.by_ticket.ensures.still c.keeps.ensures.limits _ c.args.self.now _ _ c.in-None.ensures.granted c.next.ensures.after c.next-in-None.ensures.granted c.next-in-None.ensures.after
+
+pub returns-in-Some-clause-next : goal.returns-in-Some-clause-next
+returns-in-Some-clause-next c = ap (λ (xs : List Share). or_else xs (grants c.args.self.now.strangers Next)) c.in-Some.ensures.granted
+
+pub returns-in-None-clause-next : goal.returns-in-None-clause-next
+returns-in-None-clause-next c = c.next-in-None.ensures.granted ∙ ap (λ (xs : List Share). or_else xs (grants c.args.self.now.strangers Next)) c.in-None.ensures.granted

@@ -1,3 +1,4 @@
+use Rattle.std.specs.Prelude.{◌≡◌}
 use Rattle.open_connections.specs.Looping.{Stays}
 use Rattle.open_connections.specs.Opened.{lanes_of}
 use Rattle.open_connections.specs.Shares.{StayFree}
@@ -12,5 +13,7 @@ invariant-shares g l = record {
   free : StayFree l.initial.self.budgets l.self.budgets;
   ready : StatesStay l.initial.self l.self;
   claims : ClaimsStay l.initial.self l.self;
+  core : l.self.core ≡ l.initial.self.core;
+  longs : l.self.due.longs ≡ l.initial.self.due.longs;
   woken : StaysWoken l.initial.self l.self;
 }

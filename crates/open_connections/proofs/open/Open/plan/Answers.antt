@@ -1,5 +1,5 @@
 use Rattle.std.proofs.Common.{false, refl, sym}
-use Rattle.open_connections.proofs.Keeping.{keep_at}
+use Rattle.open_connections.proofs.Keeping.{claim_kept, keep_at}
 use Rattle.open_connections.specs.Opened.{bytes_of}
 use Rattle.open_connections.proofs.Steps.{passed_at}
 use Rattle.open_connections.proofs.Woken.{taken_off}
@@ -32,3 +32,9 @@ returns-in-Lingering-clause-lanes g c =
     let o = c.args.self.now in
     let connection = c.in_ok-connection.connection.now in
     rw c.prepare.ensures (passed_at g.C.LoopCore.steps g.S.Wire.told o.budgets (bytes_of o) o.core o.core o.connections c.args.key connection (record connection { is_due = false }) (sym c.in_ok-connection.ensures.value) refl refl refl refl (λ q e. refl))
+
+pub returns-in-Served-clause-claim : goal.returns-in-Served-clause-claim
+returns-in-Served-clause-claim g c = claim_kept c.args.self.now.connections c.args.key c.in_ok-connection.connection.now _ (sym c.in_ok-connection.ensures.value) refl
+
+pub returns-in-Lingering-clause-claim : goal.returns-in-Lingering-clause-claim
+returns-in-Lingering-clause-claim g c = claim_kept c.args.self.now.connections c.args.key c.in_ok-connection.connection.now _ (sym c.in_ok-connection.ensures.value) refl
