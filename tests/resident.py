@@ -13,7 +13,7 @@ import sys
 from contextlib import ExitStack
 from pathlib import Path
 
-from lib.running_server import GIVE_BACK, Listening, Report, open_connection
+from lib.running_server import GIVE_BACK, PATIENCE, Listening, Report, open_connection
 from limits import HALF, LONG_QUERY, NO_HITS, TEXT, TOO_LONG_QUERY, put, query
 from many_connections import KEY, MEBIBYTE, PUT_REPLY, exchange, frame
 
@@ -82,7 +82,8 @@ def unread(server, request):
 
 
 def unread_then_read(server, request):
-    """Peers ask and read nothing until all have asked, and then all that comes, one after the other."""
+    """Peers ask and read nothing until all have asked, and then each all that comes. Who is served first is the server's to say: a peer that waits for
+    memory gets its reply once others have read theirs."""
     with ExitStack() as stack:
         opened = [stack.enter_context(open_connection(server.address)) for _ in range(PEERS)]
         for connection in opened:
@@ -90,8 +91,11 @@ def unread_then_read(server, request):
         served(server)
         for connection in opened:
             connection.shutdown(socket.SHUT_WR)
-            while connection.recv(1 << 20):
-                pass
+        while opened:
+            ready = select.select(opened, [], [], PATIENCE)[0]
+            if not ready:
+                sys.exit(f"{len(opened)} peers read, and nothing comes")
+            opened = [it for it in opened if it not in ready or it.recv(1 << 20)]
 
 
 def half_read(server, request):
